@@ -1,0 +1,6 @@
+pub mod Linear
+pub mod Bytewise
+pub mod Quotient
+pub mod Flipping
+pub mod Repairing
+pub mod Shorter

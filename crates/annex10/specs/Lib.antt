@@ -1,0 +1,5 @@
+pub mod Remainder
+pub mod Division
+pub mod Flip
+pub mod Header
+pub mod Repair

@@ -1,0 +1,14 @@
+// The types of a repair. What they mean stands in specs/; no code.
+
+// At most two positions of a message, whose bits are turned over.
+pub enum Repairs {
+    None,
+    One(u8),
+    Two(u8, u8),
+}
+
+// What a search for positions finds.
+pub enum Found {
+    At(Repairs),
+    Nothing,
+}

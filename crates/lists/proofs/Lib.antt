@@ -1,0 +1,6 @@
+pub mod Test
+pub mod Tree
+pub mod Table
+pub mod Fold
+pub mod Xor
+pub mod Bits

@@ -1,0 +1,2 @@
+pub mod From
+pub mod Bits

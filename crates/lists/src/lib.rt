@@ -1,0 +1,1 @@
+// Definitions and laws of lists, loops, bits and bytes; no code.

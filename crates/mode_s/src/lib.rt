@@ -1,0 +1,3 @@
+// Mode S: the remainder of a message.
+mod bytes;
+pub mod crc;

@@ -4,3 +4,5 @@ pub mod Quotient
 pub mod Flipping
 pub mod Repairing
 pub mod Shorter
+pub mod Singles
+pub mod Unique

@@ -1,0 +1,40 @@
+-- The rules of the two sorted tables: an entry is a remainder in front of the 8 bits of a position.
+-- Assumes nothing.
+use mathlib.Core.Path.{_≡_}
+use mathlib.Core.List.{List}
+use Prim.Native.Nat.{ℕ, _/_, _%_, _<_, _≤_}
+use lib.ListN.{getD, length}
+use Rattle.annex10.specs.declared.Repairs.the-variants.{One, Two}
+use Rattle.annex10.specs.Repair.{Proper, pattern}
+
+-- the entry at i; its remainder; its position
+abbrev pub remainderAt : List ℕ → ℕ → ℕ
+remainderAt t i = getD t i 0 / 256
+
+abbrev pub positionAt : List ℕ → ℕ → ℕ
+positionAt t i = getD t i 0 % 256
+
+-- the remainders do not fall
+abbrev pub Ascending : List ℕ → Type 0
+Ascending t = (p q : ℕ) → p ≤ q → q < length t → remainderAt t p ≤ remainderAt t q
+
+-- p is the first place whose remainder is not below crc
+pub record Placed (t : List ℕ) (crc p : ℕ) : Type 0 where
+  pub within : p ≤ length t
+  pub low : (i : ℕ) → i < p → remainderAt t i < crc
+  pub high : (i : ℕ) → p ≤ i → i < length t → crc ≤ remainderAt t i
+
+-- single errors: each entry is the remainder of its own position, the remainders rise, and each position is there
+pub record SingleTable (t : List ℕ) : Type 0 where
+  pub rises : (p q : ℕ) → p < q → q < length t → remainderAt t p < remainderAt t q
+  pub proper : (i : ℕ) → i < length t → Proper 14 (One (positionAt t i))
+  pub right : (i : ℕ) → i < length t → pattern 14 (One (positionAt t i)) ≡ remainderAt t i
+  pub there : (j : ℕ) → Proper 14 (One j) → (i : ℕ) × (i < length t) × (remainderAt t i ≡ pattern 14 (One j))
+
+-- double errors, with the second positions in a table of their own
+pub record DoubleTable (t second : List ℕ) : Type 0 where
+  pub as-long : length second ≡ length t
+  pub rises : (p q : ℕ) → p < q → q < length t → remainderAt t p < remainderAt t q
+  pub proper : (i : ℕ) → i < length t → Proper 14 (Two (positionAt t i) (getD second i 0))
+  pub right : (i : ℕ) → i < length t → pattern 14 (Two (positionAt t i) (getD second i 0)) ≡ remainderAt t i
+  pub there : (j k : ℕ) → Proper 14 (Two j k) → (i : ℕ) × (i < length t) × (remainderAt t i ≡ pattern 14 (Two j k))

@@ -1,2 +1,5 @@
 pub mod Turn
 pub mod Rule
+pub mod Codes
+pub mod Head
+pub mod Text

@@ -1,3 +1,8 @@
-// Mode S: the remainder of a message.
+// Mode S: the remainder of a message, its header, its repair, and its text.
+pub mod avr;
 mod bytes;
 pub mod crc;
+pub mod header;
+mod inside;
+pub mod message;
+pub mod repair;

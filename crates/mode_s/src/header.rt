@@ -1,0 +1,76 @@
+// The header of a message: its first byte, with the repairs that fall into it.
+use crate::inside::lie_inside;
+use annex10::Repairs;
+ghost use mathlib.Core.Path.{_≡_};
+ghost use Rattle.annex10.specs.Header.{longHeader};
+ghost use Rattle.annex10.specs.Repair.{repairedHead};
+ghost use Rattle.mode_s.specs.Header.{zeroOrWithin, headFlip, headerOf};
+
+// What a header check answers.
+pub enum Validity {
+    Valid,
+    Invalid,
+    Refused(u32),
+}
+
+// 0, or low to high.
+fn is_zero_or_within(code: u8, low: u8, high: u8) -> bool
+    ensures { λ r. ⌜ r ≡ zeroOrWithin low high code ⌝ }
+{
+    if code == 0 {
+        return true;
+    }
+    if code < low {
+        return false;
+    }
+    code <= high
+}
+
+// Whether a first byte is that of an extended squitter.
+fn is_long(first: u8) -> bool
+    ensures { λ r. ⌜ r ≡ longHeader first ⌝ }
+{
+    let format = first / 8;
+    let code = first % 8;
+    if format == 17 {
+        return is_zero_or_within(code, 4, 7);
+    }
+    if format == 18 {
+        return is_zero_or_within(code, 2, 6);
+    }
+    false
+}
+
+// The first byte with the bit at j turned over, if it lies there.
+fn flip_head(first: u8, j: u8) -> u8
+    ensures { λ r. ⌜ r ≡ headFlip first j ⌝ }
+{
+    if j < 8 {
+        first ^ (1u8 << (7 - j))
+    } else {
+        first
+    }
+}
+
+fn head(first: u8, repairs: Repairs) -> u8
+    ensures { λ r. ⌜ r ≡ repairedHead first repairs ⌝ }
+{
+    match repairs {
+        Repairs::None => first,
+        Repairs::One(j) => flip_head(first, j),
+        Repairs::Two(j, k) => flip_head(flip_head(first, j), k),
+    }
+}
+
+// Whether the first byte of a 14-byte message, repaired, is that of an extended squitter. A position above 111 is refused with 8.
+pub fn header_is_valid(first: u8, repairs: Repairs) -> Validity
+    ensures { λ r. ⌜ r ≡ headerOf 14 longHeader first repairs ⌝ }
+{
+    if !lie_inside(14, repairs) {
+        return Validity::Refused(8);
+    }
+    if is_long(head(first, repairs)) {
+        return Validity::Valid;
+    }
+    Validity::Invalid
+}

@@ -4,7 +4,7 @@
 -- Assumes nothing.
 use mathlib.Core.Path.{_≡_, refl, sym, ap, ap₂, _∙_, subst}
 use mathlib.Core.List.{List, [], _∷_, _++_}
-use Prim.Native.Nat.{ℕ, zero, suc, _+_, _*_, _/_, _^_, _<_, _≤_}
+use Prim.Native.Nat.{ℕ, zero, suc, _+_, _-_, _*_, _/_, _^_, _<_, _≤_}
 use native.Mathlib.Nat.{add-zero, zero-mul, zero-lt-suc, lt-irrefl, lt-of-le-of-lt, pow-suc, mul-comm, mul-assoc, mul-one}
 use native.Mathlib.Omega.{arith}
 use lib.ListN.{length, replicate, length-append}
@@ -15,6 +15,10 @@ use Rattle.annex10.specs.Remainder.{generator, less, bring, divide, bits
 use Rattle.annex10.specs.Division.{AreBits, number, times, xors, Divided}
 use Rattle.lists.proofs.Xor.{xor-assoc, xor4, xor-back, xor-zero}
 use Rattle.annex10.proofs.Linear.{are-bits, are-zeros, are-append, divide-lt, bring-lt}
+
+-- G as Annex 10 writes it: 1 + x^3 + x^10 + x^12 + x^13 + .. + x^24
+pub generator-terms : generator ≡ 2 ^ 0 + 2 ^ 3 + 2 ^ 10 + (2 ^ 25 - 2 ^ 12)
+generator-terms = refl
 
 -- the coefficients that were taken away
 quotient : ℕ → List ℕ → List ℕ

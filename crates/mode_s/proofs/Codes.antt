@@ -7,7 +7,7 @@ use Prim.Native.Nat.{ℕ, _<_}
 use lib.Dec.{T}
 use Rattle.lists.proofs.Test.{allBelow, below}
 use Rattle.annex10.specs.Header.{oneOf, capabilities, controls}
-use Rattle.mode_s.specs.Header.{zeroOrWithin}
+use Rattle.mode_s.specs.Inner.{zeroOrWithin}
 
 same : (a b : Bool) → T (Bool·beq a b) → a ≡ b
 same true true t = refl

@@ -15,7 +15,7 @@ use lib.Bits.{bitXor}
 use Rattle.annex10.specs.Flip.{flip}
 use Rattle.annex10.specs.declared.Repairs.the-variants.{One, Two}
 use Rattle.annex10.specs.Repair.{repaired, repairedHead}
-use Rattle.mode_s.specs.Header.{headFlip}
+use Rattle.mode_s.specs.Inner.{headFlip}
 
 -- one bit, as the code shifts it into its place
 pub shifted : (e : ℕ) → e < 8 → 1 * 2 ^ e % 256 ≡ 2 ^ e

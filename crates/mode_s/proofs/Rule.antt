@@ -7,7 +7,7 @@ use Prim.Native.Nat.{ℕ, _<_}
 use lib.Dec.{T, eqb, eqb→eq}
 use lib.ListN.{length, getD}
 use Rattle.annex10.specs.Remainder.{remainder}
-use Rattle.mode_s.specs.Crc.{ByteTable}
+use Rattle.mode_s.specs.Inner.{ByteTable}
 use Rattle.lists.proofs.Test.{both, both-left, both-right, every, at}
 
 unfoldable pub right : ℕ → ℕ → Bool

@@ -10,9 +10,18 @@ use borrow.Author.Tests.{eqb-true}
 use lib.Dec.{eqb}
 use lib.ListN.{length, getD, length-append, List·getD-append}
 use lib.Seq.{getD-append-add}
-use Rattle.lists.specs.From.{tabulate}
+use Rattle.lists.specs.From.{from, tabulate}
 use Rattle.lists.proofs.Table.{tabulate-is}
-use Rattle.mode_s.specs.Avr.{hexDigit, hexText, avrText, messageLength, avrByte}
+use Rattle.mode_s.specs.Avr.{hexDigit, hexText, avrText, messageLength}
+use Rattle.mode_s.specs.Inner.{avrByte}
+
+-- the digits of 0 to 15 are those of 0123456789ABCDEF
+abbrev pub digits : List ℕ
+digits = 0x30 ∷ 0x31 ∷ 0x32 ∷ 0x33 ∷ 0x34 ∷ 0x35 ∷ 0x36 ∷ 0x37 ∷ 0x38 ∷ 0x39 ∷ 0x41 ∷ 0x42 ∷ 0x43 ∷ 0x44 ∷ 0x45 ∷ 0x46 ∷ []
+
+pub digits-are : tabulate 16 hexDigit ≡ digits
+unfolding tabulate from hexDigit
+digits-are = refl
 
 length-hex : (m : List ℕ) → length (hexText m) ≡ 2 * length m
 unfolding hexText

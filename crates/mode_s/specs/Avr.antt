@@ -4,7 +4,7 @@ use mathlib.Core.Bool.{Bool, cond, _||_}
 use mathlib.Core.List.{List, [], _∷_, _++_}
 use Prim.Native.Nat.{ℕ, _+_, _-_, _*_, _/_, _%_}
 use lib.Dec.{eqb, ltb}
-use lib.ListN.{length, getD}
+use lib.ListN.{length}
 
 -- a number below 16 as a capital hex digit: 48 is `0`, 65 is `A`
 unfoldable pub hexDigit : ℕ → ℕ
@@ -29,9 +29,3 @@ avrLine m out =
     cond (messageLength (length m))
     (cond (eqb (length out) (2 * length m + 2)) (0, avrText m) (3, out))
     (2, out)
-
--- ---- for the code
-
--- byte i of the line
-unfoldable pub avrByte : List ℕ → ℕ → ℕ
-avrByte m i = getD (avrText m) i 0

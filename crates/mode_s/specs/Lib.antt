@@ -1,5 +1,5 @@
-pub mod Crc
 pub mod Header
 pub mod Corrected
 pub mod Avr
 pub mod Message
+pub mod Inner

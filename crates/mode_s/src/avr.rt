@@ -2,7 +2,8 @@
 ghost use mathlib.Core.Path.{_≡_};
 ghost use Prim.Native.Nat.{_+_, _*_, _<_};
 ghost use lib.ListN.{length};
-ghost use Rattle.mode_s.specs.Avr.{hexDigit, avrByte, messageLength, avrLine};
+ghost use Rattle.mode_s.specs.Avr.{hexDigit, messageLength, avrLine};
+ghost use Rattle.mode_s.specs.Inner.{avrByte};
 
 // A number below 16 as a capital hex digit.
 fn digit(n: u8) -> u8

@@ -2,7 +2,7 @@
 use crate::bytes::BYTES;
 ghost use mathlib.Core.Path.{_≡_};
 ghost use Rattle.annex10.specs.Remainder.{remainder};
-ghost use Rattle.mode_s.specs.Crc.{ByteTable};
+ghost use Rattle.mode_s.specs.Inner.{ByteTable};
 
 // The table is lent: a constant would be written out anew at each turn of the loop.
 fn crc24_by(table: &[u32; 256], bytes: &[u8]) -> u32

@@ -4,7 +4,8 @@ use annex10::Repairs;
 ghost use mathlib.Core.Path.{_≡_};
 ghost use Rattle.annex10.specs.Header.{longHeader};
 ghost use Rattle.annex10.specs.Repair.{repairedHead};
-ghost use Rattle.mode_s.specs.Header.{zeroOrWithin, headFlip, headerOf};
+ghost use Rattle.mode_s.specs.Header.{headerOf};
+ghost use Rattle.mode_s.specs.Inner.{zeroOrWithin, headFlip};
 
 // What a header check answers.
 pub enum Validity {

@@ -1,3 +1,5 @@
+-- `mode_s::crc::crc24` meets its contract: the test of the constant table is computed here.
+-- Assumes nothing.
 use borrow.Author.Needs.{needs}
 use Rattle.mode_s.proofs.Rule.{byte-rule, right, byte-table}
 use Rattle.annex10.specs.Remainder.{remainder}

@@ -1,3 +1,5 @@
+-- `mode_s::crc::crc24_by` meets its contract. The loop's invariant: crc is the remainder of the first i bytes.
+-- Assumes nothing.
 use Prim.Native.Nat.{_-_, _/_, _^_, _≤_, _<_}
 use mathlib.Core.Path.{_≡_, sym, ap, _∙_}
 use borrow.Author.Needs.{needs}

@@ -4,7 +4,7 @@ use native.Mathlib.Omega.{arith}
 use Prim.Native.Nat.{_-_, _<_}
 use Rattle.mode_s.proofs.Head.{shifted}
 use borrow.Author.Tests.{lt-ltb, le-ltb}
-use Rattle.mode_s.specs.Header.{headFlip}
+use Rattle.mode_s.specs.Inner.{headFlip}
 use borrow.Author.Needs.{needs}
 use Rattle.mode_s.proofs.header.flip_head.Statement.{statement}
 use Rattle.mode_s.proofs.header.flip_head.Tie as tie

@@ -1,7 +1,7 @@
 -- `mode_s::header::is_zero_or_within` meets its contract.
 -- Assumes nothing.
 use borrow.Author.Tests.{eq-eqb, ne-eqb, le-leb, lt-leb}
-use Rattle.mode_s.specs.Header.{zeroOrWithin}
+use Rattle.mode_s.specs.Inner.{zeroOrWithin}
 use Rattle.mode_s.proofs.header.is_zero_or_within.Statement.{statement}
 use Rattle.mode_s.proofs.header.is_zero_or_within.Tie as tie
 

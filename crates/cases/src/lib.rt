@@ -1,0 +1,1 @@
+// The worked cases of the rules, proved: one table, one statement; no code.

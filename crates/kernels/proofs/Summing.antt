@@ -1,0 +1,92 @@
+-- Laws of symbol sums.
+--     sum-more, pair-more   a turn of the inner loop, and of the outer
+--     symbols-length        there are 2,304 numbers
+--     symbol-stands         where a symbol stands
+--     complex-part          complex numbers of a part of a row
+--     row-symbol            a row by itself holds the symbols of its phase
+--     accumulated-done      the answer where nothing is refused
+-- Assumes nothing.
+use mathlib.Core.Path.{_≡_, _∙_}
+use mathlib.Core.List.{List}
+use Prim.Native.Nat.{ℕ, _+_, _*_, _/_, _%_, _<_}
+use native.Mathlib.Numerals.{add-one}
+use native.Mathlib.Omega.{arith}
+use borrow.Author.Tests.{eq-eqb}
+use lib.ListN.{length, set, take, drop}
+use lib.Seq.{getD-take, getD-drop}
+use lib.Ieee.{Float, nan}
+use Rattle.lists.proofs.Table.{Done, done-more, length-tabulate, getD-tabulate}
+use Rattle.math.specs.declared.Complex.{Complex}
+use Rattle.math.specs.Complex.{plusOf}
+use Rattle.kernels.specs.Symbols.{complexAt, sumFrom, symbolOf, numberOf, symbolsOf, accumulated}
+
+pub sum-more : (xs : List Float) (j m : ℕ) {z w s : Complex} → z ≡ sumFrom xs j m → w ≡ complexAt xs (j + m) → s ≡ plusOf z w → s ≡ sumFrom xs j (m + 1)
+unfolding sumFrom
+sum-more xs j m ez ew es = es ∙ rw (ez, ew, add-one m)
+
+-- the numbers of symbol n of phase k
+module _ (s : List Float) (k n : ℕ) (l : n < 288) where
+  re-is : numberOf s (576 * k + 2 * n) ≡ symbolOf s k n .re
+  unfolding numberOf
+  re-is =
+      let i = 576 * k + 2 * n in
+      let a : i % 2 ≡ 0 = omega arith in
+      let b : i / 576 ≡ k = omega arith in
+      let h : i / 2 ≡ 288 * k + n = omega arith in
+      let d : i / 2 % 288 ≡ n = rw h (omega arith) in
+      rw (a, b, d)
+
+  im-is : numberOf s (576 * k + 2 * n + 1) ≡ symbolOf s k n .im
+  unfolding numberOf
+  im-is =
+      let i = 576 * k + 2 * n + 1 in
+      let a : i % 2 ≡ 1 = omega arith in
+      let b : i / 576 ≡ k = omega arith in
+      let h : i / 2 ≡ 288 * k + n = omega arith in
+      let d : i / 2 % 288 ≡ n = rw h (omega arith) in
+      rw (a, b, d)
+
+-- symbol n of phase k is stored after those before it
+pub pair-more : (s xs : List Float) (k n : ℕ) (z : Complex) → k < 4 → n < 288 → z ≡ sumFrom s (4 * n + k) 4
+    → Done nan (numberOf s) 2304 xs (576 * k + 2 * n)
+    → Done nan (numberOf s) 2304 (set (set xs (576 * k + 2 * n) (z .re)) (576 * k + 2 * n + 1) (z .im)) (576 * k + 2 * (n + 1))
+unfolding symbolOf
+pair-more s xs k n z hk hn e r =
+    let i = 576 * k + 2 * n in
+    let m : 576 * k + 2 * (n + 1) ≡ i + 1 + 1 = omega arith in
+    rw m
+    (done-more nan (numberOf s) 2304 (set xs i (z .re)) (i + 1) (z .im) (omega arith)
+    (done-more nan (numberOf s) 2304 xs i (z .re) (omega arith) r (rw (re-is s k n hn, e)))
+    (rw (im-is s k n hn, e)))
+
+pub symbols-length : (s : List Float) → length (symbolsOf s) ≡ 2304
+unfolding symbolsOf
+symbols-length s = length-tabulate 2304 (numberOf s)
+
+-- row k holds the symbols of phase k
+pub symbol-stands : (s : List Float) (k n : ℕ) → k < 4 → n < 288 → complexAt (symbolsOf s) (288 * k + n) ≡ symbolOf s k n
+unfolding complexAt symbolsOf
+symbol-stands s k n hk hn =
+    let a : 2 * (288 * k + n) ≡ 576 * k + 2 * n = omega arith in
+    rw (a, getD-tabulate 2304 (numberOf s) (576 * k + 2 * n) nan (omega arith), getD-tabulate 2304 (numberOf s) (576 * k + 2 * n + 1) nan (omega arith), re-is s k n hn, im-is s k n hn)
+
+-- complex numbers of a part of a row
+pub complex-part : (xs : List Float) (a m j : ℕ) → j < m → complexAt (take (2 * m) (drop (2 * a) xs)) j ≡ complexAt xs (a + j)
+unfolding complexAt
+complex-part xs a m j h =
+    let u : 2 * j < 2 * m = omega arith in
+    let v : 2 * j + 1 < 2 * m = omega arith in
+    let p : 2 * a + 2 * j ≡ 2 * (a + j) = omega arith in
+    let q : 2 * a + (2 * j + 1) ≡ 2 * (a + j) + 1 = omega arith in
+    rw (getD-take (2 * m) (drop (2 * a) xs) (2 * j) nan u, getD-take (2 * m) (drop (2 * a) xs) (2 * j + 1) nan v, getD-drop (2 * a) xs (2 * j) nan, getD-drop (2 * a) xs (2 * j + 1) nan, p, q)
+
+-- the row of phase k by itself
+pub row-symbol : (s : List Float) (k n : ℕ) → k < 4 → n < 288 → complexAt (take 576 (drop (576 * k) (symbolsOf s))) n ≡ symbolOf s k n
+row-symbol s k n hk hn =
+    let a : 576 * k ≡ 2 * (288 * k) = omega arith in
+    rw a (complex-part (symbolsOf s) (288 * k) 288 n hn ∙ symbol-stands s k n hk hn)
+
+pub accumulated-done : (samples symbols : List Float) → length samples ≡ 2310 → length symbols ≡ 2304
+    → accumulated samples symbols ≡ (0, symbolsOf samples)
+unfolding accumulated
+accumulated-done samples symbols a b = simp (eq-eqb _ _ a, eq-eqb _ _ b)

@@ -1,0 +1,6 @@
+// From samples to symbols to bits, and the powers of a message.
+mod bits;
+mod complex;
+pub mod power;
+pub mod slicers;
+pub mod symbols;

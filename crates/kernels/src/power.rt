@@ -1,0 +1,66 @@
+// The power of a message, and of the noise beside it.
+use crate::bits::bit_at;
+use crate::complex::complex_at;
+use math::Complex;
+ghost use mathlib.Core.Path.{_≡_};
+ghost use Prim.Native.Nat.{_*_, _≤_};
+ghost use lib.ListN.{length};
+ghost use Rattle.kernels.specs.Powers.{powerOf, noiseOf, powerAt, noiseAt};
+
+pub enum Power {
+    Is(f32),
+    Refused(u32),
+}
+
+// Of a message of some bytes: two symbols for each bit.
+fn pulse_power(symbols: &[f32], message: &[u8]) -> f32
+    requires { ⌜ (length (now symbols) ≡ 32 * length (now message)) × (length (now message) ≤ 14) ⌝ }
+    ensures { λ r. ⌜ r ≡ powerOf (length (now (message .entry))) (now (symbols .entry)) (now (message .entry)) ⌝ }
+{
+    let mut power: f32 = 0.0;
+    for j in 0..8 * message.len() {
+        let bit = bit_at(message, j) as usize;
+        let pulse = complex_at(symbols, 2 * j + (1 - bit));
+        power = power + pulse.norm();
+    }
+    power
+}
+
+// Of a message of some bytes: eight samples for each bit.
+fn empty_power(samples: &[f32], message: &[u8]) -> f32
+    requires { ⌜ (length (now samples) ≡ 128 * length (now message)) × (length (now message) ≤ 14) ⌝ }
+    ensures { λ r. ⌜ r ≡ noiseOf (length (now (message .entry))) (now (samples .entry)) (now (message .entry)) ⌝ }
+{
+    let mut power: f32 = 0.0;
+    for j in 0..8 * message.len() {
+        let bit = bit_at(message, j) as usize;
+        let start = 8 * j + 4 * bit + 1;
+        let w = complex_at(samples, start).plus(complex_at(samples, start + 1));
+        power = power + w.norm();
+    }
+    power
+}
+
+pub fn postdecode_power(symbols: &[f32], message: &[u8]) -> Power
+    ensures { λ r. ⌜ r ≡ powerAt (now (symbols .entry)) (now (message .entry)) ⌝ }
+{
+    if symbols.len() != 448 {
+        return Power::Refused(2);
+    }
+    if message.len() != 14 {
+        return Power::Refused(2);
+    }
+    Power::Is(pulse_power(symbols, message))
+}
+
+pub fn postdecode_noise_power(samples: &[f32], message: &[u8]) -> Power
+    ensures { λ r. ⌜ r ≡ noiseAt (now (samples .entry)) (now (message .entry)) ⌝ }
+{
+    if samples.len() != 1792 {
+        return Power::Refused(2);
+    }
+    if message.len() != 14 {
+        return Power::Refused(2);
+    }
+    Power::Is(empty_power(samples, message))
+}

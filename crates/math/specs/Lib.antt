@@ -1,0 +1,3 @@
+pub mod Complex
+pub mod Sum
+pub mod Parabola

@@ -1,0 +1,95 @@
+-- Laws of the bits of a stream from an offset on.
+--     message-length, message-bit    n bytes, of which bit j is bit offset + j of the stream
+--     message-value, message-byte    a run of its bits; each byte is below 256
+--     message-head                   its first byte
+--     stream-done, opened            a call is taken exactly when the stream has 18 bytes and the offset is at most 32
+--     extracted-, crc-               the answers: refused, done
+-- Assumes nothing.
+use mathlib.Core.Path.{_≡_, refl, sym, ap, _∙_}
+use mathlib.Core.List.{List}
+use mathlib.Core.Bool.{Bool, true, false, cond}
+use Prim.Native.Nat.{ℕ, zero, suc, _+_, _*_, _<_, _≤_}
+use native.Mathlib.Nat.{add-zero}
+use native.Mathlib.Omega.{arith}
+use borrow.Author.Tests.{eqb-true, leb-true, eq-eqb, le-leb}
+use lib.Dec.{eqb, leb}
+use lib.ListN.{length, getD, replicate}
+use Rattle.lists.specs.Bits.{bitAt, value, packed}
+use Rattle.lists.proofs.Table.{length-tabulate, getD-tabulate}
+use Rattle.lists.proofs.Bits.{bitAt-lt, bitAt-packed, value-lt, value-later}
+use Rattle.annex10.specs.Remainder.{remainder}
+use Rattle.streams.specs.declared.crc.Crc.the-variants.{Is, Refused}
+use Rattle.streams.specs.Streams.{messageAt, streamNumber}
+use Rattle.streams.specs.Messages.{extracted}
+use Rattle.streams.specs.Remainders.{crcAt}
+
+module _ (bytes : List ℕ) (n offset : ℕ) where
+  pub message-length : length (messageAt bytes n offset) ≡ n
+  unfolding messageAt packed
+  message-length = length-tabulate n (λ (k : ℕ). value (λ (j : ℕ). bitAt bytes (offset + j)) (8 * k) 8)
+
+  pub message-bit : (j : ℕ) → j < 8 * n → bitAt (messageAt bytes n offset) j ≡ bitAt bytes (offset + j)
+  unfolding messageAt
+  message-bit j h = bitAt-packed (λ (i : ℕ). bitAt bytes (offset + i)) (λ i. bitAt-lt bytes (offset + i) refl) n j h
+
+  pub message-value : (j m : ℕ) → j + m ≤ 8 * n → value (bitAt (messageAt bytes n offset)) j m ≡ value (bitAt bytes) (offset + j) m
+  unfolding value
+  message-value j zero h = refl
+  message-value j (suc m) h =
+      let a : offset + (j + m) ≡ offset + j + m = omega arith in
+      rw (message-value j m (omega arith), message-bit (j + m) (omega arith), a)
+
+  pub message-byte : (k : ℕ) → k < n → getD (messageAt bytes n offset) k 0 < 256
+  unfolding messageAt packed
+  message-byte k h =
+      rw (getD-tabulate n (λ (i : ℕ). value (λ (j : ℕ). bitAt bytes (offset + j)) (8 * i) 8) k 0 h)
+      (value-lt (λ (j : ℕ). bitAt bytes (offset + j)) (λ i. bitAt-lt bytes (offset + i) refl) (8 * k) 8)
+
+  pub message-head : 0 < n → getD (messageAt bytes n offset) 0 0 ≡ value (bitAt bytes) offset 8
+  unfolding messageAt packed
+  message-head h =
+      getD-tabulate n (λ (k : ℕ). value (λ (j : ℕ). bitAt bytes (offset + j)) (8 * k) 8) 0 0 h
+      ∙ value-later (bitAt bytes) offset 0 8
+      ∙ ap (λ (o : ℕ). value (bitAt bytes) o 8) (add-zero offset)
+
+-- ---- which calls are taken
+
+pub record Taken (bytes : List ℕ) (offset : ℕ) : Type 0 where
+  pub size : length bytes ≡ 18
+  pub low : offset ≤ 32
+
+pub stream-done : (bytes : List ℕ) (offset : ℕ) → length bytes ≡ 18 → offset ≤ 32 → streamNumber bytes offset ≡ 0
+unfolding streamNumber
+stream-done bytes offset a b = simp (eq-eqb _ _ a, le-leb _ _ b)
+
+tested : (bytes : List ℕ) (offset : ℕ) (t u : Bool) → eqb (length bytes) 18 ≡ t → leb offset 32 ≡ u → _≡_ {A = ℕ} (cond t (cond u 0 7) 2) 0
+    → Taken bytes offset
+tested bytes offset true true a b e = record { size = eqb-true _ _ a; low = leb-true _ _ b }
+tested bytes offset true false a b e = absurd (omega arith)
+tested bytes offset false u a b e = absurd (omega arith)
+
+pub opened : (bytes : List ℕ) (offset : ℕ) {n : ℕ} → n ≡ streamNumber bytes offset → n ≡ 0 → Taken bytes offset
+unfolding streamNumber
+opened bytes offset e z = tested bytes offset (eqb (length bytes) 18) (leb offset 32) refl refl (sym e ∙ z)
+
+-- ---- the answers
+
+module _ (bytes : List ℕ) (offset : ℕ) where
+  pub extracted-refused : {n : ℕ} → n ≡ streamNumber bytes offset → (n ≡ 0 → ⊥)
+      → record { number = n; bytes = replicate 14 0 } ≡ extracted bytes offset
+  unfolding extracted
+  extracted-refused {n = zero} e h = absurd (h refl)
+  extracted-refused {n = suc n} e h = rw (← e)
+
+  pub extracted-done : length bytes ≡ 18 → offset ≤ 32 → extracted bytes offset ≡ record { number = 0; bytes = messageAt bytes 14 offset }
+  unfolding extracted
+  extracted-done a b = rw (stream-done bytes offset a b)
+
+  pub crc-refused : {n : ℕ} → n ≡ streamNumber bytes offset → (n ≡ 0 → ⊥) → Refused n ≡ crcAt bytes offset
+  unfolding crcAt
+  crc-refused {n = zero} e h = absurd (h refl)
+  crc-refused {n = suc n} e h = rw (← e)
+
+  pub crc-done : length bytes ≡ 18 → offset ≤ 32 → crcAt bytes offset ≡ Is (remainder (messageAt bytes 14 offset))
+  unfolding crcAt
+  crc-done a b = rw (stream-done bytes offset a b)

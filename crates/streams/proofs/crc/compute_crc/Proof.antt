@@ -1,0 +1,42 @@
+-- `streams::crc::compute_crc` meets its contract: a refusal, or the remainder of the copied bits. Assumes nothing.
+use native.Mathlib.Omega.{arith}
+use Rattle.streams.proofs.Reading.{opened, crc-refused, crc-done}
+use borrow.Author.Needs.{needs}
+use Rattle.streams.proofs.crc.compute_crc.Statement.{statement}
+use Rattle.streams.proofs.crc.compute_crc.Tie as tie
+
+stream-number-requires : tie.Need-stream-number-requires
+stream-number-requires c κs = search needs
+
+returns : tie.Need-returns
+returns c = crc-refused _ _ (c .before .stream-number .ensures) (c .if1 .taken)
+
+slice-aggregate-copy-bits : tie.Need-slice-aggregate-copy-bits
+slice-aggregate-copy-bits c = search needs
+
+copy-bits-requires : tie.Need-copy-bits-requires
+copy-bits-requires c κs = let t = opened _ _ (c .before .before .stream-number .ensures) (c .before .if1 .left) in (omega arith, omega arith)
+
+slice-aggregate-crc24 : tie.Need-slice-aggregate-crc24
+slice-aggregate-crc24 c = search needs
+
+crc24-requires : tie.Need-crc24-requires
+crc24-requires c κs = search needs
+
+returns-2 : tie.Need-returns-2
+returns-2 c =
+    let else1 = c .before .before .before .before .before in
+    let t = opened _ _ (else1 .before .stream-number .ensures) (else1 .if1 .left) in
+    rw (crc-done _ _ (t .size) (t .low), c .crc24 .ensures, c .before .before .before .copy-bits .ensures)
+
+pub compute-crc-spec : {M : Type 1} → statement M
+compute-crc-spec =
+    tie.close
+    (tie.spec
+    stream-number-requires
+    returns
+    slice-aggregate-copy-bits
+    copy-bits-requires
+    slice-aggregate-crc24
+    crc24-requires
+    returns-2)

@@ -1,0 +1,6 @@
+pub mod Streams
+pub mod Messages
+pub mod Remainders
+pub mod Distances
+pub mod FirstByte
+pub mod Headers

@@ -1,0 +1,29 @@
+// The message at a bit offset of a stream.
+use crate::bits::copy_bits;
+use crate::refusal::stream_number;
+ghost use mathlib.Core.Path.{_≡_};
+ghost use Rattle.streams.specs.Messages.{extracted};
+
+// The bytes are zeros where the call is refused.
+pub struct Message {
+    pub number: u32,
+    pub bytes: [u8; 14],
+}
+
+pub fn extract_message(bytes: &[u8], offset: usize) -> Message
+    ensures { λ r. ⌜ r ≡ extracted (now (bytes .entry)) offset ⌝ }
+{
+    let number = stream_number(bytes, offset);
+    let mut message = [0u8; 14];
+    if number != 0 {
+        return Message {
+            number,
+            bytes: message,
+        };
+    }
+    copy_bits(bytes, offset, &mut message);
+    Message {
+        number: 0,
+        bytes: message,
+    }
+}

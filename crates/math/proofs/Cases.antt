@@ -1,4 +1,4 @@
--- The cases of document 01 for the parabola: one table, and one statement of it.
+-- The worked cases of the parabola: one table, and one statement of it.
 -- Assumes nothing.
 use mathlib.Core.Path.{_≡_, refl}
 use mathlib.Core.List.{List, [], _∷_, map}

@@ -2,5 +2,4 @@ pub mod Streams
 pub mod Messages
 pub mod Remainders
 pub mod Distances
-pub mod FirstByte
 pub mod Headers

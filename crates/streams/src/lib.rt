@@ -2,7 +2,6 @@
 mod bits;
 pub mod crc;
 pub mod distance;
-mod head;
 pub mod header;
 pub mod message;
 mod refusal;

@@ -1,4 +1,4 @@
-// Document 01's sample window, read at two places: what the slicers make of it, and the remainder.
+// A window that holds one message, read at two places: what the slicers make of it, and the remainder.
 use kernels::slicers::demodulate;
 use kernels::symbols::accumulate_symbols;
 use libc::STDOUT_FILENO;

@@ -4,3 +4,4 @@ pub mod Table
 pub mod Fold
 pub mod Xor
 pub mod Bits
+pub mod Members

@@ -1,0 +1,3 @@
+pub mod Logarithm
+pub mod Estimate
+pub mod Apart

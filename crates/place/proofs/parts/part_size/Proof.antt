@@ -1,0 +1,18 @@
+-- `place::parts::part_size` meets its contract.
+-- Assumes nothing.
+use borrow.Author.Needs.{needs}
+use borrow.Author.Tests.{eq-eqb, ne-eqb}
+use Rattle.place.specs.Part.{partSize}
+use Rattle.place.proofs.parts.part_size.Statement.{statement}
+use Rattle.place.proofs.parts.part_size.Tie as tie
+
+returns : tie.Need-returns
+unfolding partSize
+returns c = (rw (eq-eqb _ _ (c .if1 .taken)), search needs)
+
+returns-2 : tie.Need-returns-2
+unfolding partSize
+returns-2 c = (rw (ne-eqb _ _ (c .if1 .left)), search needs)
+
+pub part-size-spec : {M : Type 1} → statement M
+part-size-spec = tie.close (tie.spec returns returns-2)

@@ -1,0 +1,41 @@
+-- Where a place starts, and the places one clock phase earlier and later.
+-- A message of n bytes has 16 * n symbols of the window's 288.
+-- Assumes nothing.
+use mathlib.Core.Bool.{Bool, _&&_, cond}
+use Prim.Native.Nat.{ℕ, _+_, _-_, _*_, _/_, _%_}
+use lib.Dec.{leb, ltb}
+use Rattle.place.specs.declared.Place.{Place}
+use Rattle.place.specs.declared.Stepped.{Stepped}
+use Rattle.place.specs.declared.Stepped.the-variants.{To, Refused}
+
+-- the symbol that it starts with
+abbrev pub symbolStart : Place → ℕ
+symbolStart p = 2 * p .bit + p .symbol
+
+-- the sample that it starts with
+abbrev pub sampleStart : Place → ℕ
+sampleStart p = 4 * symbolStart p + p .phase
+
+-- the last symbol that a message of n bytes can start with: 64 for 14 bytes
+abbrev pub lastSymbol : ℕ → ℕ
+lastSymbol n = 288 - 16 * n
+
+-- a message of n bytes at the place ends within the window
+unfoldable pub within : ℕ → Place → Bool
+within n p = leb (p .phase) 3 && leb (p .symbol) 1 && leb (symbolStart p) (lastSymbol n)
+
+-- the place that starts with sample s: 8 samples are a bit, 4 a symbol
+unfoldable pub startingAt : ℕ → Place
+startingAt s = record { bit = s / 8; phase = s % 4; symbol = s / 4 % 2 }
+
+-- one sample earlier; there is none before sample 0
+unfoldable pub earlierOf : ℕ → Place → Stepped
+earlierOf n p =
+    cond (within n p) (cond (ltb 0 (sampleStart p)) (To (startingAt (sampleStart p - 1))) (Refused 7)) (Refused 7)
+
+-- one sample later; there is none after clock phase 3 of the last symbol
+unfoldable pub laterOf : ℕ → Place → Stepped
+laterOf n p =
+    cond (within n p)
+    (cond (ltb (sampleStart p) (4 * lastSymbol n + 3)) (To (startingAt (sampleStart p + 1))) (Refused 7))
+    (Refused 7)

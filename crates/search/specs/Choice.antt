@@ -1,0 +1,89 @@
+-- The search: which readings survive, which of two is the better, and the best of all places.
+-- Assumes nothing.
+use mathlib.Core.Path.{_≡_}
+use mathlib.Core.Bool.{Bool, true, false, _&&_, _||_, cond}
+use mathlib.Core.List.{List, foldl, List·Memᴰ}
+use mathlib.Core.Option.{Option, none, some}
+use Prim.Native.Nat.{ℕ, min}
+use lib.Dec.{ltb, leb, eqb}
+use lib.ListN.{length}
+use lib.Ieee.{Float, lt}
+use Rattle.annex10.specs.Repair.{count, repaired}
+use Rattle.place.specs.declared.Place.{Place}
+use Rattle.place.specs.declared.Slicer.{Slicer}
+use Rattle.place.specs.declared.Slicer.the-variants.{Coherent, Noncoherent}
+use Rattle.search.specs.declared.Settings.{Settings}
+use Rattle.search.specs.declared.Reading.{Reading}
+use Rattle.search.specs.declared.Tried.{Tried}
+use Rattle.search.specs.declared.Tried.the-variants.{Pass, Fail}
+use Rattle.search.specs.declared.Candidate.{Candidate}
+use Rattle.search.specs.Trials.{Kind, reading}
+
+infix 4 _∈_
+abbrev pub _∈_ : Place → List Place → Type 0
+p ∈ places = List·Memᴰ p places
+
+-- what a search sees of a window
+pub record Window : Type 0 where
+  -- the bits of a slicer at a place
+  pub bits : Slicer → Place → List ℕ
+  -- in how many of them the two slicers differ
+  pub distance : Place → ℕ
+  -- prompt power and cn0 of a message at a place
+  pub prompt : Place → List ℕ → Float
+  pub cn0 : Place → List ℕ → Float
+
+-- the bits of a place are as many as a message has
+pub record Sized (kind : Kind) (w : Window) : Type 0 where
+  pub size : (slicer : Slicer) (p : Place) → length (w .bits slicer p) ≡ kind .bytes
+
+-- a reading at a place, with its message, power and cn0
+unfoldable pub candidate : Window → Place → Reading → Candidate
+candidate w p r =
+    let message = repaired (w .bits (r .slicer) p) (r .repairs) in
+    record {
+      place = p;
+      trial = r .trial;
+      slicer = r .slicer;
+      repairs = r .repairs;
+      message = message;
+      prompt = w .prompt p message;
+      cn0 = w .cn0 p message;
+    }
+
+abbrev pub isNoncoherent : Slicer → Bool
+isNoncoherent Coherent = false
+isNoncoherent Noncoherent = true
+
+-- two repairs are dropped below the threshold; if noncoherent, also below the second where the slicers' bits differ in too many places
+unfoldable pub dropped : Settings → ℕ → Candidate → Bool
+dropped s differing c =
+    eqb (count (c .repairs)) 2
+    && (lt (c .cn0) (s .threshold) || (isNoncoherent (c .slicer) && (lt (c .cn0) (s .second) && leb (s .distance) differing)))
+
+unfoldable pub survivor : Settings → Window → Place → Tried → Option Candidate
+survivor s w p Fail = none
+survivor s w p (Pass r) = cond (dropped s (w .distance p) (candidate w p r)) none (some (candidate w p r))
+
+-- the surviving reading of a place: the level is at most what the kind of message allows
+unfoldable pub candidateAt : Kind → Settings → Window → Place → Option Candidate
+candidateAt kind s w p = survivor s w p (reading kind (min (s .level) (kind .most)) (w .bits Coherent p) (w .bits Noncoherent p))
+
+-- a newcomer displaces the holder: fewer repairs, or as many and a strictly greater cn0
+unfoldable pub beats : Candidate → Candidate → Bool
+beats new held =
+    ltb (count (new .repairs)) (count (held .repairs))
+    || (eqb (count (new .repairs)) (count (held .repairs)) && lt (held .cn0) (new .cn0))
+
+abbrev pub better : Option Candidate → Option Candidate → Option Candidate
+better none new = new
+better (some h) none = some h
+better (some h) (some n) = cond (beats n h) (some n) (some h)
+
+-- the best of what f gives at the places, held on from h
+unfoldable pub scan : (Place → Option Candidate) → Option Candidate → List Place → Option Candidate
+scan f h places = foldl (λ held p. better held (f p)) h places
+
+-- THE SEARCH
+unfoldable pub best : Kind → Settings → Window → Option Candidate
+best kind s w = scan (candidateAt kind s w) none (kind .places)

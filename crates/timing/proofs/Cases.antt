@@ -1,0 +1,38 @@
+-- Document 01's cases of timing. The timing is the value before 0.5 is taken from it.
+-- Assumes nothing.
+use mathlib.Core.Path.{_≡_, refl}
+use mathlib.Core.Bool.{true, false}
+use mathlib.Core.List.{List, [], _∷_, map}
+use lib.IntN.{pos}
+use lib.Ieee.{Float, nan, inf, fin, add, sub, lt, le, isNan}
+use Rattle.timing.specs.declared.Offset.the-variants.{Earlier, Same, Later}
+use Rattle.timing.specs.declared.Moves.{Moves}
+use Rattle.timing.specs.declared.Moves.the-variants.{Back, On}
+use Rattle.timing.specs.declared.Timing.{Timing}
+use Rattle.timing.specs.declared.Settled.the-variants.{Refused}
+use Rattle.timing.specs.Subsample.{one, minus-one, halves, held, fractionOf, inRange, move, turn, rest, moved, timingOf, settledOf}
+
+abbrev settles : Moves → Float → Timing
+settles m f = record { moves = m; fraction = f }
+
+pub record Case : Type 0 where
+  pub found : Timing
+  pub said : Timing
+
+-- timing 1: one move on. Timing -2: two moves back. Timing 2: two moves on, by a value beyond any range. NaN: no move
+abbrev pub cases : List Case
+cases =
+    record { found = timingOf (fractionOf one Same); said = settles (On 1) (halves true 1) }
+    ∷ record { found = timingOf (fractionOf minus-one Earlier); said = settles (Back 2) (halves true 1) }
+    ∷ record { found = timingOf (fractionOf (inf false) Later); said = settles (On 2) (halves true 1) }
+    ∷ record { found = timingOf (fractionOf nan Later); said = settles (On 0) nan }
+    ∷ []
+
+pub cases-hold : map (λ (c : Case). c .found) cases ≡ map (λ (c : Case). c .said) cases
+unfolding timingOf fractionOf held rest moved move turn add sub lt le
+cases-hold = refl
+
+-- what timing cannot give is refused
+pub refused : (settledOf (fin false 1 (pos 1)) ≡ Refused 7) × (settledOf (inf true) ≡ Refused 7)
+unfolding settledOf inRange isNan lt le
+refused = (refl, refl)

@@ -1,0 +1,8 @@
+mod Halves
+pub mod Exactly
+pub mod Turning
+mod Keeping
+pub mod Reach
+mod Reading
+pub mod Laws
+pub mod Cases

@@ -1,4 +1,4 @@
-// The types of a search: what the six trials at a place find, and what is kept of it. What they mean stands in specs/; no code.
+// The types of a search and of its answer. What they mean stands in specs/; no code.
 use annex10::Repairs;
 use place::Place;
 use place::Slicer;
@@ -33,4 +33,29 @@ pub struct Candidate {
     pub message: [u8; 14],
     pub prompt: f32,
     pub cn0: f32,
+}
+
+// The surviving reading of a place, or of all places. Number 1 is none, other numbers are refusals, with zeros.
+pub struct Read {
+    pub number: u32,
+    pub candidate: Candidate,
+}
+
+// When a message came: the sample's index and the fraction of a sample.
+pub struct Timed {
+    pub number: u32,
+    pub index: u64,
+    pub fraction: f32,
+}
+
+// What a decode answers. Where the number is not 0 the other fields are zeros, coherent and no repairs.
+pub struct Answer {
+    pub number: u32,
+    pub place: Place,
+    pub message: [u8; 14],
+    pub repairs: Repairs,
+    pub slicer: Slicer,
+    pub cn0: f32,
+    pub index: u64,
+    pub fraction: f32,
 }

@@ -1,0 +1,50 @@
+-- When a message at a place came: the sample's index and the fraction of a sample.
+-- Assumes nothing.
+use mathlib.Core.Bool.{cond}
+use mathlib.Core.List.{List}
+use Prim.Native.Nat.{ℕ, _+_, _-_}
+use lib.Ieee.{Float, lt}
+use Rattle.place.specs.declared.Place.{Place}
+use Rattle.place.specs.Step.{sampleStart, startingAt}
+use Rattle.math.specs.Parabola.{parabola}
+use Rattle.timing.specs.declared.Offset.{Offset}
+use Rattle.timing.specs.declared.Offset.the-variants.{Earlier, Same, Later}
+use Rattle.timing.specs.declared.Moves.{Moves}
+use Rattle.timing.specs.declared.Moves.the-variants.{Back, On}
+use Rattle.timing.specs.declared.Timing.{Timing}
+use Rattle.timing.specs.Subsample.{fractionOf, timingOf}
+use Rattle.search.specs.Choice.{Window}
+
+-- where the power of a message is looked at: the sample that it starts with, the power there, and how that lies to its place
+pub record Prompt : Type 0 where
+  pub start : ℕ
+  pub power : Float
+  pub offset : Offset
+
+unfoldable pub lookAt : Window → List ℕ → ℕ → Offset → Prompt
+lookAt w message start offset = record { start = start; power = w .prompt (startingAt start) message; offset = offset }
+
+-- a neighbour takes over if its power is strictly greater
+unfoldable pub over : Prompt → Prompt → Prompt
+over held new = cond (lt (held .power) (new .power)) new held
+
+-- the prompt: the place itself, the neighbour one clock phase earlier, then the one later
+unfoldable pub promptOf : Window → List ℕ → ℕ → Prompt
+promptOf w message s = over (over (lookAt w message s Same) (lookAt w message (s - 1) Earlier)) (lookAt w message (s + 1) Later)
+
+-- the parabola about the prompt
+unfoldable pub about : Window → List ℕ → Prompt → Float
+about w message p =
+    parabola (lookAt w message (p .start - 1) (p .offset) .power) (p .power) (lookAt w message (p .start + 1) (p .offset) .power)
+
+-- the moves and the fraction of a message that starts with sample s
+unfoldable pub timingAt : Window → List ℕ → ℕ → Timing
+timingAt w message s = let p = promptOf w message s in timingOf (fractionOf (about w message p) (p .offset))
+
+abbrev pub moved : Moves → ℕ → ℕ
+moved (On n) index = index + n
+moved (Back n) index = index - n
+
+-- the index of the window's sample 128 is given; the window's own start with 128 less
+unfoldable pub indexOf : ℕ → ℕ → Moves → ℕ
+indexOf given s moves = moved moves (given - 128 + s)

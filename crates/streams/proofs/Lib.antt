@@ -1,3 +1,4 @@
 pub mod Reading
 pub mod Comparing
 pub mod Heading
+pub mod Parting

@@ -6,6 +6,7 @@ use Prim.Native.Nat.{ℕ, _+_}
 use lib.Dec.{eqb, leb}
 use lib.ListN.{length}
 use Rattle.lists.specs.Bits.{bitAt, packed}
+use Rattle.place.specs.Part.{partSize}
 
 -- n bytes, of which bit j is bit offset + j of the stream
 unfoldable pub messageAt : List ℕ → ℕ → ℕ → List ℕ
@@ -15,6 +16,14 @@ messageAt bytes n offset = packed n (λ (j : ℕ). bitAt bytes (offset + j))
 unfoldable pub streamNumber : List ℕ → ℕ → ℕ
 streamNumber bytes offset =
     cond (eqb (length bytes) 18)
+    (cond (leb offset 32) 0
+    7)
+    2
+
+-- the number of a call at a part of a stream: as many bytes as the message lies in, else 2; an offset is 0 to 32, else 7
+unfoldable pub partNumber : List ℕ → ℕ → ℕ
+partNumber part offset =
+    cond (eqb (length part) (partSize 14 offset))
     (cond (leb offset 32) 0
     7)
     2

@@ -1,0 +1,92 @@
+-- Laws of a message in a part of a stream.
+--     message-part     in the part that starts with the byte of its first bit the message is the same
+--     part-            the answers: refused, done
+-- Assumes nothing.
+use mathlib.Core.Path.{_≡_, refl, sym, ap, _∙_}
+use mathlib.Core.List.{List}
+use mathlib.Core.Bool.{Bool, true, false, cond}
+use Prim.Native.Nat.{ℕ, zero, suc, _+_, _-_, _*_, _/_, _%_, _<_, _≤_}
+use native.Mathlib.Omega.{arith}
+use borrow.Author.Tests.{eq-eqb, eqb-true, le-leb, leb-true}
+use lib.Dec.{eqb, leb}
+use lib.ListN.{length, take, drop, replicate}
+use lib.Seq.{getD-take, getD-drop}
+use Rattle.lists.specs.Bits.{bitAt, value, packed}
+use Rattle.lists.proofs.Table.{tabulate-is, length-tabulate, getD-tabulate}
+use Rattle.place.specs.Part.{partSize}
+use Rattle.streams.specs.Streams.{messageAt, partNumber}
+use Rattle.streams.specs.Messages.{partMessage}
+
+-- a bit of a part
+bit-part : (s : List ℕ) (a m j : ℕ) → j < 8 * m → bitAt (take m (drop a s)) j ≡ bitAt s (8 * a + j)
+unfolding bitAt
+bit-part s a m j h =
+    let q : (8 * a + j) / 8 ≡ a + j / 8 = omega arith in
+    let r : (8 * a + j) % 8 ≡ j % 8 = omega arith in
+    let l : j / 8 < m = omega arith in
+    rw (getD-take, getD-drop, q, r)
+
+-- runs of equal bits have the same value
+same-value : (f g : ℕ → ℕ) (j n : ℕ) → ((i : ℕ) → i < n → f (j + i) ≡ g (j + i)) → value f j n ≡ value g j n
+unfolding value
+same-value f g j zero h = refl
+same-value f g j (suc n) h = rw (same-value f g j n (λ i l. h i (omega arith)), h n (omega arith))
+
+same-packed : (n : ℕ) (f g : ℕ → ℕ) → ((i : ℕ) → i < 8 * n → f i ≡ g i) → packed n f ≡ packed n g
+unfolding packed
+same-packed n f g h =
+    tabulate-is 0 (λ (k : ℕ). value g (8 * k) 8) n _ (length-tabulate n _)
+    (λ k l. getD-tabulate n (λ (i : ℕ). value f (8 * i) 8) k 0 l ∙ same-value f g (8 * k) 8 (λ i m. h (8 * k + i) (omega arith)))
+
+pub message-part : (s : List ℕ) (n m bit : ℕ) → bit % 8 + 8 * n ≤ 8 * m → messageAt (take m (drop (bit / 8) s)) n (bit % 8) ≡ messageAt s n bit
+unfolding messageAt
+message-part s n m bit h =
+    same-packed n _ _
+    (λ j l. bit-part s (bit / 8) m (bit % 8 + j) (omega arith) ∙ ap (bitAt s) (place j))
+  where
+    place : (j : ℕ) → 8 * (bit / 8) + (bit % 8 + j) ≡ bit + j
+    place j = omega arith
+
+-- a part of `partSize` bytes is enough
+pub enough : (n bit : ℕ) → bit % 8 + 8 * n ≤ 8 * partSize n bit
+unfolding partSize
+enough n bit = go (eqb (bit % 8) 0) refl
+  where
+    go : (b : Bool) → eqb (bit % 8) 0 ≡ b → bit % 8 + 8 * n ≤ 8 * cond b n (n + 1)
+    go true e = omega (arith, eqb-true (bit % 8) 0 e)
+    go false e = omega arith
+
+-- ---- which calls are taken
+
+pub record PartTaken (part : List ℕ) (bit : ℕ) : Type 0 where
+  pub size : length part ≡ partSize 14 bit
+  pub low : bit ≤ 32
+
+tested : (part : List ℕ) (bit : ℕ) (t u : Bool) → eqb (length part) (partSize 14 bit) ≡ t → leb bit 32 ≡ u → _≡_ {A = ℕ} (cond t (cond u 0 7) 2) 0
+    → PartTaken part bit
+tested part bit true true a b e = record { size = eqb-true _ _ a; low = leb-true _ _ b }
+tested part bit true false a b e = absurd (omega arith)
+tested part bit false u a b e = absurd (omega arith)
+
+pub part-opened : (part : List ℕ) (bit : ℕ) {n : ℕ} → n ≡ partNumber part bit → n ≡ 0 → PartTaken part bit
+unfolding partNumber
+part-opened part bit e z = tested part bit (eqb (length part) (partSize 14 bit)) (leb bit 32) refl refl (sym e ∙ z)
+
+pub part-refused : (part : List ℕ) (bit : ℕ) {n : ℕ} → n ≡ partNumber part bit → (n ≡ 0 → ⊥)
+    → record { number = n; bytes = replicate 14 0 } ≡ partMessage part bit
+unfolding partMessage
+part-refused part bit {n = zero} e h = absurd (h refl)
+part-refused part bit {n = suc n} e h = rw (← e)
+
+pub part-done : (part : List ℕ) (bit : ℕ) → length part ≡ partSize 14 bit → bit ≤ 32
+    → partMessage part bit ≡ record { number = 0; bytes = messageAt part 14 (bit % 8) }
+unfolding partMessage partNumber
+part-done part bit a b = simp (eq-eqb _ _ a, le-leb _ _ b)
+
+pub small : (n bit : ℕ) → partSize n bit ≤ n + 1
+unfolding partSize
+small n bit = go (eqb (bit % 8) 0)
+  where
+    go : (b : Bool) → cond b n (n + 1) ≤ n + 1
+    go true = omega arith
+    go false = omega arith

@@ -4,7 +4,6 @@ use mathlib.Core.Bool.{cond}
 use mathlib.Core.List.{List}
 use Prim.Native.Nat.{ℕ, _+_, _-_}
 use lib.Ieee.{Float, lt}
-use Rattle.place.specs.declared.Place.{Place}
 use Rattle.place.specs.Step.{sampleStart, startingAt}
 use Rattle.math.specs.Parabola.{parabola}
 use Rattle.timing.specs.declared.Offset.{Offset}
@@ -13,16 +12,12 @@ use Rattle.timing.specs.declared.Moves.{Moves}
 use Rattle.timing.specs.declared.Moves.the-variants.{Back, On}
 use Rattle.timing.specs.declared.Timing.{Timing}
 use Rattle.timing.specs.Subsample.{fractionOf, timingOf}
+use Rattle.search.specs.declared.Prompt.{Prompt}
 use Rattle.search.specs.Choice.{Window}
 
--- where the power of a message is looked at: the sample that it starts with, the power there, and how that lies to its place
-pub record Prompt : Type 0 where
-  pub start : ℕ
-  pub power : Float
-  pub offset : Offset
-
+-- a message is looked at where it starts with sample s
 unfoldable pub lookAt : Window → List ℕ → ℕ → Offset → Prompt
-lookAt w message start offset = record { start = start; power = w .prompt (startingAt start) message; offset = offset }
+lookAt w message s offset = record { place = startingAt s; power = w .prompt (startingAt s) message; offset = offset }
 
 -- a neighbour takes over if its power is strictly greater
 unfoldable pub over : Prompt → Prompt → Prompt
@@ -35,7 +30,8 @@ promptOf w message s = over (over (lookAt w message s Same) (lookAt w message (s
 -- the parabola about the prompt
 unfoldable pub about : Window → List ℕ → Prompt → Float
 about w message p =
-    parabola (lookAt w message (p .start - 1) (p .offset) .power) (p .power) (lookAt w message (p .start + 1) (p .offset) .power)
+    let s = sampleStart (p .place) in
+    parabola (w .prompt (startingAt (s - 1)) message) (p .power) (w .prompt (startingAt (s + 1)) message)
 
 -- the moves and the fraction of a message that starts with sample s
 unfoldable pub timingAt : Window → List ℕ → ℕ → Timing

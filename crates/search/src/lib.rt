@@ -2,6 +2,7 @@
 use annex10::Repairs;
 use place::Place;
 use place::Slicer;
+use timing::Offset;
 
 // The level is the most bits that are repaired, 0 to 2. A reading with two repairs has to reach the first threshold; if it is
 // noncoherent and the slicers differ in as many bits as the distance, also the second.
@@ -39,6 +40,13 @@ pub struct Candidate {
 pub struct Read {
     pub number: u32,
     pub candidate: Candidate,
+}
+
+// Where the power of a message is looked at: the place, the power there, and how it lies to the message's own.
+pub struct Prompt {
+    pub place: Place,
+    pub power: f32,
+    pub offset: Offset,
 }
 
 // When a message came: the sample's index and the fraction of a sample.

@@ -1,0 +1,67 @@
+-- What is read at a place, from the parts that are lent for it.
+--     power-is, noise-is     the powers of a message
+--     message-is             the named slicer's bits, repaired
+-- Assumes nothing.
+use mathlib.Core.Path.{_≡_, refl, sym, ap, _∙_, subst}
+use mathlib.Core.Bool.{true}
+use mathlib.Core.List.{List}
+use Prim.Native.Nat.{ℕ, _*_, _%_, _≤_}
+use native.Mathlib.Omega.{arith}
+use borrow.Author.Tests.{eq-eqb, le-leb}
+use lib.ListN.{length, take, drop}
+use lib.Ieee.{Float}
+use Rattle.annex10.specs.declared.Repairs.{Repairs}
+use Rattle.annex10.specs.Repair.{inside, repaired}
+use Rattle.mode_s.specs.Corrected.{corrected}
+use Rattle.place.specs.declared.Place.{Place}
+use Rattle.place.specs.declared.Slicer.{Slicer}
+use Rattle.place.specs.Step.{within}
+use Rattle.place.specs.Part.{rowRefusal, symbolsFor, samplesFor, streamsRefusal, chosen, partSize, slicerPart}
+use Rattle.place.proofs.Taken.{symbols-long, samples-long, part-done, part-long}
+use Rattle.kernels.specs.declared.power.Power.{Power}
+use Rattle.kernels.specs.declared.power.Power.the-variants.{Is}
+use Rattle.kernels.specs.Powers.{powerOf, noiseOf, powerAt, noiseAt}
+use Rattle.kernels.proofs.Measuring.{power-done, noise-done}
+use Rattle.streams.specs.declared.message.Message.{Message}
+use Rattle.streams.specs.Streams.{messageAt}
+use Rattle.streams.specs.Messages.{partMessage}
+use Rattle.streams.proofs.Parting as Parting
+use Rattle.streams.proofs.Reading.{message-length}
+
+row-taken : (size : ℕ) (xs : List Float) (p : Place) → length xs ≡ size → within 14 p ≡ true → rowRefusal size 14 xs p ≡ 0
+unfolding rowRefusal
+row-taken size xs p e w = rw (eq-eqb _ _ e, w)
+
+module _ (xs : List Float) (p : Place) (message : List ℕ) {part : List Float} {a : Power} where
+  pub power-is : length xs ≡ 576 → within 14 p ≡ true → length message ≡ 14 → part ≡ symbolsFor 14 xs p → a ≡ powerAt part message
+      → a ≡ Is (powerOf 14 (symbolsFor 14 xs p) message)
+  power-is l w m e f =
+      f ∙ ap (λ (x : List Float). powerAt x message) e
+      ∙ power-done (symbolsFor 14 xs p) message (symbols-long 14 xs p (omega arith) (row-taken 576 xs p l w)) m
+
+  pub noise-is : length xs ≡ 2310 → within 14 p ≡ true → length message ≡ 14 → part ≡ samplesFor 14 xs p → a ≡ noiseAt part message
+      → a ≡ Is (noiseOf 14 (samplesFor 14 xs p) message)
+  noise-is l w m e f =
+      f ∙ ap (λ (x : List Float). noiseAt x message) e
+      ∙ noise-done (samplesFor 14 xs p) message (samples-long 14 xs p (omega arith) (row-taken 2310 xs p l w)) m
+
+streams-taken : (c n : List ℕ) (bit : ℕ) → length c ≡ 18 → length n ≡ 18 → bit ≤ 32 → streamsRefusal 14 c n bit ≡ 0
+unfolding streamsRefusal
+streams-taken c n bit a b h = simp (eq-eqb _ _ a, eq-eqb _ _ b, le-leb _ _ h)
+
+corrected-done : (x : List ℕ) (ρ : Repairs) → length x ≡ 14 → inside 14 ρ ≡ true → corrected 14 ρ x ≡ (0, repaired x ρ)
+unfolding corrected
+corrected-done x ρ d j = rw (eq-eqb _ _ d, j)
+
+pub message-is : (c n : List ℕ) (bit : ℕ) (slicer : Slicer) (ρ : Repairs) {part last : List ℕ} {m : Message} {r : ℕ}
+    → length c ≡ 18 → length n ≡ 18 → bit ≤ 32 → inside 14 ρ ≡ true
+    → part ≡ slicerPart 14 c n bit slicer → m ≡ partMessage part bit → _≡_ {A = ℕ × List ℕ} (r, last) (corrected 14 ρ (m .bytes))
+    → last ≡ repaired (messageAt (chosen slicer c n) 14 bit) ρ
+message-is c n bit slicer ρ {part} {last} {m} a b h i e f g =
+    let s = chosen slicer c n in
+    let t = streams-taken c n bit a b h in
+    let l : length part ≡ partSize 14 bit = ap length e ∙ part-long 14 c n bit slicer (omega arith) t in
+    let q : messageAt part 14 (bit % 8) ≡ messageAt s 14 bit
+    = ap (λ (x : List ℕ). messageAt x 14 (bit % 8)) (e ∙ part-done 14 c n bit slicer t) ∙ Parting.message-part s 14 (partSize 14 bit) bit (Parting.enough 14 bit) in
+    let z : m .bytes ≡ messageAt s 14 bit = ap (λ (x : Message). x .bytes) (f ∙ Parting.part-done part bit l h) ∙ q in
+    ap (λ (x : ℕ × List ℕ). x .1) (g ∙ corrected-done (m .bytes) ρ (ap length z ∙ message-length s 14 bit) i) ∙ ap (λ (x : List ℕ). repaired x ρ) z

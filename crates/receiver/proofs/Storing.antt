@@ -1,0 +1,69 @@
+-- The streams of a window, stored row by row.
+--     rows-more       a row more is stored
+--     rows-part       the streams of a row stand in their part
+-- Assumes nothing.
+use mathlib.Core.Path.{_≡_, refl, sym, ap, ap₂, _∙_}
+use mathlib.Core.List.{List, [], _∷_, _++_, append-assoc, append-nil}
+use Prim.Native.Nat.{ℕ, zero, suc, _+_, _-_, _*_, _<_, _≤_}
+use native.Mathlib.Numerals.{add-one}
+use native.Mathlib.Omega.{arith}
+use lib.ListN.{length, take, drop, length-append, length-take, length-drop}
+use lib.Seq.{take-at, drop-at, take-append-le, drop-append-le, take-all}
+use lib.Ieee.{Float}
+use Rattle.place.specs.declared.Slicer.{Slicer}
+use Rattle.place.specs.declared.Slicer.the-variants.{Coherent, Noncoherent}
+use Rattle.kernels.specs.Slices.{sliced, streamsOf, demodulated}
+use Rattle.kernels.proofs.Slicing.{streams-first, streams-second, streams-length, sliced-length, demodulated-done}
+use Rattle.receiver.specs.Inner.{rowsOf}
+
+module _ (slicer : Slicer) (symbols : List Float) where
+  pub rows-length : (k : ℕ) → length (rowsOf slicer symbols k) ≡ 36 * k
+  unfolding rowsOf
+  rows-length zero = refl
+  rows-length (suc k) =
+      length-append (rowsOf slicer symbols k) _ ∙ ap₂ (λ (a b : ℕ). a + b) (rows-length k) (streams-length slicer _) ∙ omega arith
+
+  -- what a loop has stored after k rows
+  pub record Stored (xs : List ℕ) (k : ℕ) : Type 0 where
+    pub size : length xs ≡ 144
+    pub so-far : take (36 * k) xs ≡ rowsOf slicer symbols k
+
+  pub rows-none : (xs : List ℕ) → length xs ≡ 144 → Stored xs 0
+  unfolding rowsOf
+  rows-none xs e = record { size = e; so-far = refl }
+
+  pub rows-more : (xs p : List ℕ) (k m : ℕ) → m ≡ 36 → k < 4 → Stored xs k → p ≡ streamsOf slicer (take 576 (drop (576 * k) symbols))
+      → Stored (take (36 * k) xs ++ (p ++ drop m (drop (36 * k) xs))) (k + 1)
+  unfolding rowsOf
+  rows-more xs p k m z h s e =
+      let l : length p ≡ 36 = ap length e ∙ streams-length slicer _ in
+      let t : length (take (36 * k) xs) ≡ 36 * k = simp length-take (omega (arith, s .size)) in
+      let q : length (take (36 * k) xs ++ p) ≡ 36 * (k + 1) = length-append (take (36 * k) xs) p ∙ ap₂ (λ (a b : ℕ). a + b) t l ∙ omega arith in
+      record {
+        size = length-append (take (36 * k) xs) _ ∙ simp (length-append, length-drop) (omega (arith, s .size));
+        so-far =
+            ap (λ (r : List ℕ). take (36 * (k + 1)) r) (sym (append-assoc (take (36 * k) xs) p (drop m (drop (36 * k) xs))))
+            ∙ take-at (take (36 * k) xs ++ p) (drop m (drop (36 * k) xs)) (36 * (k + 1)) q
+            ∙ ap₂ (λ (a b : List ℕ). a ++ b) (s .so-far) e
+            ∙ ap (rowsOf slicer symbols) (sym (add-one k));
+      }
+
+  pub rows-all : (xs : List ℕ) (k : ℕ) → 4 ≤ k → k ≤ 4 → Stored xs k → xs ≡ rowsOf slicer symbols 4
+  rows-all xs k h g s =
+      let e : k ≡ 4 = omega arith in
+      sym (take-all (36 * k) xs (omega (arith, s .size))) ∙ s .so-far ∙ ap (rowsOf slicer symbols) e
+
+-- one turn of the loop: the row of phase k is sliced into its part of each output
+pub rows-turn : (symbols : List Float) (cs ns p q : List ℕ) (k m n r : ℕ) → m ≡ 36 → n ≡ 576 → k < 4 → length symbols ≡ 2304
+    → Stored Coherent symbols cs k → Stored Noncoherent symbols ns k
+    → _≡_ {A = ℕ × List ℕ × List ℕ} (r, p, q) (demodulated (take n (drop (576 * k) symbols)) (take m (drop (36 * k) cs)) (take m (drop (36 * k) ns)))
+    → Stored Coherent symbols (take (36 * k) cs ++ (p ++ drop m (drop (36 * k) cs))) (k + 1)
+    × Stored Noncoherent symbols (take (36 * k) ns ++ (q ++ drop m (drop (36 * k) ns))) (k + 1)
+rows-turn symbols cs ns p q k m n r em en h l sc sn e =
+    let row = take n (drop (576 * k) symbols) in
+    let d : _≡_ {A = ℕ × List ℕ × List ℕ} (r, p, q) (0, streamsOf Coherent row, streamsOf Noncoherent row)
+    = e ∙ demodulated-done row _ _ (simp (length-take, length-drop) (omega arith)) (simp (length-take, length-drop) (omega (arith, sc .size))) (simp (length-take, length-drop) (omega (arith, sn .size))) in
+    let t : row ≡ take 576 (drop (576 * k) symbols) = ap (λ (i : ℕ). take i (drop (576 * k) symbols)) en in (
+      rows-more Coherent symbols cs p k m em h sc (ap (λ (x : ℕ × List ℕ × List ℕ). x .1) d ∙ ap (streamsOf Coherent) t),
+      rows-more Noncoherent symbols ns q k m em h sn (ap (λ (x : ℕ × List ℕ × List ℕ). x .2) d ∙ ap (streamsOf Noncoherent) t),
+    )

@@ -1,0 +1,39 @@
+-- What private functions compute: no public contract cites it.
+-- Assumes nothing.
+use mathlib.Core.Path.{_≡_}
+use mathlib.Core.List.{List, [], _++_}
+use Prim.Native.Nat.{ℕ, zero, suc, _*_}
+use lib.ListN.{take, drop}
+use lib.Ieee.{Float}
+use Rattle.place.specs.declared.Place.{Place}
+use Rattle.place.specs.declared.Slicer.{Slicer}
+use Rattle.place.specs.declared.Slicer.the-variants.{Coherent, Noncoherent}
+use Rattle.place.specs.Part.{symbolsFor}
+use Rattle.kernels.specs.Symbols.{symbolsOf}
+use Rattle.kernels.specs.Powers.{powerOf}
+use Rattle.timing.specs.declared.Offset.{Offset}
+use Rattle.search.specs.declared.Prompt.{Prompt}
+use Rattle.search.specs.Choice.{Window}
+use Rattle.kernels.specs.Slices.{streamsOf}
+
+-- both streams of a slicer for each of the first k rows of symbols
+unfoldable pub rowsOf : Slicer → List Float → ℕ → List ℕ
+rowsOf slicer symbols zero = []
+rowsOf slicer symbols (suc k) = rowsOf slicer symbols k ++ streamsOf slicer (take 576 (drop (576 * k) symbols))
+
+-- the power of a message at a place, from the symbols of all clock phases
+unfoldable pub powerIn : List Float → Place → List ℕ → Float
+powerIn symbols p message = powerOf 14 (symbolsFor 14 (take 576 (drop (576 * p .phase) symbols)) p) message
+
+unfoldable pub looked : List Float → Place → List ℕ → Offset → Prompt
+looked symbols p message offset = record { place = p; power = powerIn symbols p message; offset = offset }
+
+-- all that timing looks at
+unfoldable pub seenIn : List Float → Window
+seenIn symbols = record { bits = λ slicer p. []; distance = λ p. 0; prompt = powerIn symbols; cn0 = powerIn symbols }
+
+-- what a search looks at, made from the samples
+pub record Ready (samples symbols : List Float) (coherent noncoherent : List ℕ) : Type 0 where
+  pub sums : symbols ≡ symbolsOf samples
+  pub first : coherent ≡ rowsOf Coherent symbols 4
+  pub second : noncoherent ≡ rowsOf Noncoherent symbols 4

@@ -1,0 +1,37 @@
+// The powers of a message at a place, and what they make of it.
+use kernels::power::Power;
+use kernels::power::postdecode_noise_power;
+use kernels::power::postdecode_power;
+use place::Place;
+use place::parts::samples_for_place;
+use place::parts::symbols_for_place;
+ghost use mathlib.Core.Path.{_≡_};
+ghost use mathlib.Core.Bool.{true};
+ghost use lib.ListN.{length};
+ghost use Rattle.kernels.specs.Powers.{powerOf, noiseOf};
+ghost use Rattle.place.specs.Step.{within};
+ghost use Rattle.place.specs.Part.{symbolsFor, samplesFor};
+
+// In the pulses, from the row of symbols of the place's clock phase.
+pub fn prompt_power(row: &[f32], place: Place, message: [u8; 14]) -> f32
+    requires { ⌜ (length (now row) ≡ 576) × (within 14 place ≡ true) ⌝ }
+    ensures { λ r. ⌜ r ≡ powerOf 14 (symbolsFor 14 (now (row .entry)) place) message ⌝ }
+{
+    let part = symbols_for_place(row, place);
+    match postdecode_power(part, &message) {
+        Power::Is(power) => power,
+        Power::Refused(_) => 0.0,
+    }
+}
+
+// Beside the pulses, from the window's samples.
+pub fn noise_power(samples: &[f32], place: Place, message: [u8; 14]) -> f32
+    requires { ⌜ (length (now samples) ≡ 2310) × (within 14 place ≡ true) ⌝ }
+    ensures { λ r. ⌜ r ≡ noiseOf 14 (samplesFor 14 (now (samples .entry)) place) message ⌝ }
+{
+    let part = samples_for_place(samples, place);
+    match postdecode_noise_power(part, &message) {
+        Power::Is(power) => power,
+        Power::Refused(_) => 0.0,
+    }
+}

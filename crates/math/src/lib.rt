@@ -1,5 +1,6 @@
 // Complex numbers of two floats, and the parabola over three values.
 ghost use mathlib.Core.Path.{_≡_};
+ghost use lib.Ieee.Scale.{finite};
 ghost use Rattle.math.specs.Complex.{plusOf, normOf};
 ghost use Rattle.math.specs.Parabola.{parabola};
 
@@ -36,4 +37,15 @@ pub fn parabolic_interpolation(early: f32, prompt: f32, late: f32) -> f32
         return 0.0;
     }
     (-0.5 * (late - early)) / d
+}
+
+// Neither NaN nor infinite. A NaN is not below infinity.
+pub fn is_finite(x: f32) -> bool
+    ensures { λ r. ⌜ r ≡ finite x ⌝ }
+{
+    let infinity = 1.0 / 0.0;
+    if x < infinity {
+        return x > -infinity;
+    }
+    false
 }

@@ -1,5 +1,7 @@
 // From a window of samples to the answer.
 mod message;
 mod powers;
+mod refusals;
 mod rows;
+pub mod settings;
 mod subsample;

@@ -6,3 +6,4 @@ pub mod Repairing
 pub mod Shorter
 pub mod Singles
 pub mod Unique
+pub mod Positions

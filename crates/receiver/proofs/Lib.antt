@@ -1,3 +1,4 @@
 pub mod Storing
 pub mod Looking
 pub mod Prompting
+pub mod Weighing

@@ -2,15 +2,18 @@
 -- Assumes nothing.
 use mathlib.Core.Path.{_≡_}
 use mathlib.Core.List.{List, [], _++_}
-use Prim.Native.Nat.{ℕ, zero, suc, _*_}
-use lib.ListN.{take, drop}
+use Prim.Native.Nat.{ℕ, zero, suc, _*_, _≤_}
+use lib.ListN.{length, take, drop}
 use lib.Ieee.{Float}
 use Rattle.place.specs.declared.Place.{Place}
 use Rattle.place.specs.declared.Slicer.{Slicer}
 use Rattle.place.specs.declared.Slicer.the-variants.{Coherent, Noncoherent}
-use Rattle.place.specs.Part.{symbolsFor}
+use Rattle.place.specs.Part.{symbolsFor, samplesFor, chosen}
 use Rattle.kernels.specs.Symbols.{symbolsOf}
-use Rattle.kernels.specs.Powers.{powerOf}
+use Rattle.kernels.specs.Powers.{powerOf, noiseOf}
+use Rattle.streams.specs.Streams.{messageAt}
+use Rattle.streams.specs.Distances.{differing}
+use Rattle.cn0.specs.Estimate.{cn0Of}
 use Rattle.timing.specs.declared.Offset.{Offset}
 use Rattle.search.specs.declared.Prompt.{Prompt}
 use Rattle.search.specs.Choice.{Window}
@@ -37,3 +40,19 @@ pub record Ready (samples symbols : List Float) (coherent noncoherent : List ℕ
   pub sums : symbols ≡ symbolsOf samples
   pub first : coherent ≡ rowsOf Coherent symbols 4
   pub second : noncoherent ≡ rowsOf Noncoherent symbols 4
+
+-- two streams, and a bit offset in them
+pub record Streams (coherent noncoherent : List ℕ) (bit : ℕ) : Type 0 where
+  pub first : length coherent ≡ 18
+  pub second : length noncoherent ≡ 18
+  pub low : bit ≤ 32
+
+-- what is seen at a place, from the row and the streams in which it lies
+unfoldable pub seenAt : List Float → List Float → List ℕ → List ℕ → Window
+seenAt samples row coherent noncoherent =
+    record {
+      bits = λ slicer p. messageAt (chosen slicer coherent noncoherent) 14 (p .bit);
+      distance = λ p. differing (messageAt coherent 14 (p .bit)) (messageAt noncoherent 14 (p .bit)) 112;
+      prompt = λ p message. powerOf 14 (symbolsFor 14 row p) message;
+      cn0 = λ p message. cn0Of (powerOf 14 (symbolsFor 14 row p) message) (noiseOf 14 (samplesFor 14 samples p) message);
+    }

@@ -1,4 +1,5 @@
 // From a window of samples to the answer.
+mod candidate;
 mod message;
 mod powers;
 mod refusals;

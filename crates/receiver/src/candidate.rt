@@ -1,0 +1,156 @@
+// The surviving reading of a place, from the row and the streams of its clock phase and symbol offset.
+use crate::message::message_at;
+use crate::powers::noise_power;
+use crate::powers::prompt_power;
+use annex10::Repairs;
+use cn0::estimate_cn0;
+use place::Place;
+use place::Slicer;
+use search::Candidate;
+use search::Read;
+use search::Reading;
+use search::Settings;
+use streams::crc::Crc;
+use streams::crc::compute_crc;
+use streams::distance::Distance;
+use streams::distance::compute_hamming_distance;
+use trials::choice::repairs_of;
+use trials::filter::filter_out_decode_candidate;
+use trials::six::TriedAt;
+use trials::six::try_decode;
+ghost use mathlib.Core.Path.{_≡_};
+ghost use mathlib.Core.Bool.{true, cond};
+ghost use mathlib.Core.Option.{none, some};
+ghost use Prim.Native.Nat.{_≤_};
+ghost use lib.ListN.{length};
+ghost use Rattle.annex10.specs.Remainder.{remainder};
+ghost use Rattle.annex10.specs.Repair.{inside};
+ghost use Rattle.place.specs.Step.{within};
+ghost use Rattle.place.specs.All.{listed};
+ghost use Rattle.streams.specs.Streams.{messageAt};
+ghost use Rattle.streams.specs.Distances.{differing};
+ghost use Rattle.search.specs.Choice.{candidate, dropped, candidateAt};
+ghost use Rattle.search.specs.Kinds.{long};
+ghost use Rattle.search.specs.Answers.{readOf};
+ghost use Rattle.receiver.specs.Inner.{Streams, seenAt};
+
+// Nothing is held.
+pub fn nothing() -> Read
+    ensures { λ r. ⌜ r ≡ readOf none ⌝ }
+{
+    Read {
+        number: 1,
+        candidate: Candidate {
+            place: Place {
+                bit: 0,
+                phase: 0,
+                symbol: 0,
+            },
+            trial: 0,
+            slicer: Slicer::Coherent,
+            repairs: Repairs::None,
+            message: [0u8; 14],
+            prompt: 0.0,
+            cn0: 0.0,
+        },
+    }
+}
+
+fn crc_at(stream: &[u8], bit: usize) -> u32
+    requires { ⌜ (length (now stream) ≡ 18) × (bit ≤ 32) ⌝ }
+    ensures { λ r. ⌜ r ≡ remainder (messageAt (now (stream .entry)) 14 bit) ⌝ }
+{
+    match compute_crc(stream, bit) {
+        Crc::Is(crc) => crc,
+        Crc::Refused(_) => 0,
+    }
+}
+
+fn distance_at(coherent: &[u8], noncoherent: &[u8], bit: usize) -> u32
+    requires { ⌜ Streams (now coherent) (now noncoherent) bit ⌝ }
+    ensures { λ r. ⌜ r ≡ differing (messageAt (now (coherent .entry)) 14 bit) (messageAt (now (noncoherent .entry)) 14 bit) 112 ⌝ }
+{
+    match compute_hamming_distance(coherent, noncoherent, bit) {
+        Distance::Is(d) => d,
+        Distance::Refused(_) => 0,
+    }
+}
+
+// A reading at a place, with its message, power and cn0.
+fn candidate_of<'a>(
+    samples: &[f32],
+    row: &[f32],
+    coherent: &'a [u8],
+    noncoherent: &'a [u8],
+    place: Place,
+    reading: Reading,
+) -> Candidate
+    requires { ⌜ (length (now samples) ≡ 2310) × (length (now row) ≡ 576) × Streams (now coherent) (now noncoherent) (place .bit) × (within 14 place ≡ true) × (inside 14 (reading .repairs) ≡ true) ⌝ }
+    ensures { λ r. ⌜ r ≡ candidate (seenAt (now (samples .entry)) (now (row .entry)) (now (coherent .entry)) (now (noncoherent .entry))) place reading ⌝ }
+{
+    let bit = place.bit;
+    let slicer = reading.slicer;
+    let repairs = reading.repairs;
+    let message = message_at(coherent, noncoherent, bit, slicer, repairs);
+    let prompt = prompt_power(row, place, message);
+    let cn0 = estimate_cn0(prompt, noise_power(samples, place, message));
+    Candidate {
+        place,
+        trial: reading.trial,
+        slicer,
+        repairs,
+        message,
+        prompt,
+        cn0,
+    }
+}
+
+// The slicers' distance is asked for only where it can matter.
+fn survives(s: Settings, coherent: &[u8], noncoherent: &[u8], bit: usize, c: Candidate) -> Read
+    requires { ⌜ Streams (now coherent) (now noncoherent) bit ⌝ }
+    ensures { λ r. ⌜ r ≡ readOf (cond (dropped s (differing (messageAt (now (coherent .entry)) 14 bit) (messageAt (now (noncoherent .entry)) 14 bit) 112) c) none (some c)) ⌝ }
+{
+    let repairs = c.repairs;
+    if repairs_of(repairs) != 2 {
+        return Read {
+            number: 0,
+            candidate: c,
+        };
+    }
+    if filter_out_decode_candidate(s, distance_at(coherent, noncoherent, bit), c) {
+        return nothing();
+    }
+    Read {
+        number: 0,
+        candidate: c,
+    }
+}
+
+// The surviving reading of a place.
+pub fn read_streams<'a>(
+    samples: &[f32],
+    row: &[f32],
+    coherent: &'a [u8],
+    noncoherent: &'a [u8],
+    s: Settings,
+    place: Place,
+) -> Read
+    requires { ⌜ (length (now samples) ≡ 2310) × (length (now row) ≡ 576) × Streams (now coherent) (now noncoherent) (place .bit) × (within 14 place ≡ true) × (s .level ≤ 2) ⌝ }
+    ensures { λ r. ⌜ r ≡ readOf (candidateAt long s (seenAt (now (samples .entry)) (now (row .entry)) (now (coherent .entry)) (now (noncoherent .entry))) place) ⌝ }
+{
+    let bit = place.bit;
+    let level = s.level;
+    let c = crc_at(coherent, bit);
+    let n = crc_at(noncoherent, bit);
+    match try_decode(level, coherent, noncoherent, bit, c, n) {
+        TriedAt::Pass(reading) => survives(
+            s,
+            coherent,
+            noncoherent,
+            bit,
+            candidate_of(samples, row, coherent, noncoherent, place, reading),
+        ),
+        TriedAt::Fail => nothing(),
+        TriedAt::Refused(_) => nothing(),
+    }
+}

@@ -1,0 +1,5 @@
+pub mod Trying
+pub mod Turns
+pub mod Answering
+pub mod Choosing
+pub mod Filtering

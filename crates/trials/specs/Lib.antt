@@ -1,0 +1,4 @@
+pub mod With
+pub mod Tries
+pub mod Chosen
+pub mod Inner

@@ -2,3 +2,4 @@ pub mod Storing
 pub mod Looking
 pub mod Prompting
 pub mod Weighing
+pub mod Finding

@@ -37,6 +37,7 @@ seenIn symbols = record { bits = λ slicer p. []; distance = λ p. 0; prompt = p
 
 -- what a search looks at, made from the samples
 pub record Ready (samples symbols : List Float) (coherent noncoherent : List ℕ) : Type 0 where
+  pub whole : length samples ≡ 2310
   pub sums : symbols ≡ symbolsOf samples
   pub first : coherent ≡ rowsOf Coherent symbols 4
   pub second : noncoherent ≡ rowsOf Noncoherent symbols 4

@@ -1,5 +1,6 @@
 // From a window of samples to the answer.
 mod candidate;
+mod find;
 mod message;
 mod powers;
 mod refusals;

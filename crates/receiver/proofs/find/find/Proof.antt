@@ -1,0 +1,97 @@
+-- `receiver::find::find` meets its contract. The loop's invariant: what is held is the best of the first k places.
+-- Assumes nothing.
+use borrow.Author.Needs.{needs}
+use mathlib.Core.Path.{_≡_, refl, sym, ap, _∙_, subst}
+use native.Mathlib.Omega.{arith}
+use mathlib.Core.Bool.{true}
+use mathlib.Core.Option.{none}
+use Prim.Native.Nat.{ℕ, _-_, _≤_}
+use Rattle.lists.specs.From.{tabulate}
+use Rattle.place.specs.declared.Place.{Place}
+use Rattle.place.specs.All.{listed, placeAt}
+use Rattle.place.proofs.All.{listed-at}
+use Rattle.search.specs.Choice.{candidateAt, scan}
+use Rattle.search.specs.Kinds.{long}
+use Rattle.search.specs.Seen.{windowOf}
+use Rattle.search.specs.Answers.{readOf}
+use Rattle.search.proofs.Scanning.{scan-start}
+use Rattle.trials.proofs.Choosing.{chosen-more}
+use Rattle.receiver.proofs.Finding.{best-is}
+use Rattle.receiver.proofs.find.find.Statement.{statement}
+use Rattle.receiver.proofs.find.find.Tie as tie
+use Rattle.receiver.proofs.find.find.Reads as reads
+use Rattle.receiver.proofs.find.find.Lts as lts
+use Rattle.place.proofs.Place.at.Reads as at-reads
+use Rattle.receiver.proofs.candidate.nothing.Reads as nothing-reads
+use Rattle.receiver.proofs.find.read_at.Reads as read-at-reads
+use Rattle.trials.proofs.choice.choose.Reads as choose-reads
+
+abbrev Inv-loop : tie.InvT-loop
+Inv-loop samples symbols coherent noncoherent s held₀ k₀ held k = (k ≤ 248) × (held ≡ readOf (scan (candidateAt long s (windowOf 14 samples)) none (tabulate k placeAt)))
+
+abbrev μ-loop : tie.MeasureT-loop
+μ-loop samples symbols coherent noncoherent s held₀ k₀ held k = 248 - k
+
+-- src/find.rt:58:9
+nothing-requires : tie.Need-nothing-requires Inv-loop μ-loop
+nothing-requires c κs = search needs
+
+-- src/find.rt:60:5
+loop-holds : tie.Need-loop-holds Inv-loop μ-loop
+loop-holds c =
+    let s = c .before .before .before .before .before .args in
+    (search needs, c .nothing .ensures ∙ ap readOf (scan-start (candidateAt long (s .s) (windowOf 14 (s .samples .now))) placeAt))
+
+-- src/find.rt:61:71
+at-requires : tie.Need-at-requires Inv-loop μ-loop
+at-requires c κs = search needs
+
+-- src/find.rt:61:13
+read-at-requires : tie.Need-read-at-requires Inv-loop μ-loop
+read-at-requires c κs =
+    let s = c .before .before .before .before .before .before .before .before in
+    (s .pre .0, subst (λ (p : Place). listed 31 p ≡ true) (sym (c .at .ensures)) (listed-at 31 (c .before .before .loop .k) (omega arith)), s .pre .1)
+
+-- src/find.rt:62:9
+choose-requires : tie.Need-choose-requires Inv-loop μ-loop
+choose-requires c κs = search needs
+
+-- src/find.rt:63:9
+add-k : tie.Need-add-k Inv-loop μ-loop
+add-k c = omega arith
+
+-- src/find.rt:60:5
+loop-less : tie.Need-loop-less Inv-loop μ-loop
+loop-less c = omega arith
+
+-- src/find.rt:60:5
+loop-again : tie.Need-loop-again Inv-loop μ-loop
+loop-again c =
+    let l = c .before .before .before .before .loop in
+    let s = c .before .before .before .before .before .before .before .before .before .before .args in
+    let f = candidateAt long (s .s) (windowOf 14 (s .samples .now)) in
+    (omega arith, chosen-more f placeAt (l .k) (l .inv .1) (c .before .read-at .ensures ∙ ap (λ (p : Place). readOf (f p)) (c .before .before .at .ensures)) (c .choose .ensures))
+
+-- src/find.rt:48:1
+returns : tie.Need-returns Inv-loop μ-loop
+returns c =
+    let l = c .before .loop in
+    let s = c .before .before .before .before .before .before .before .args in
+    let e : l .k ≡ 248 = omega arith in
+    l .inv .1 ∙ ap (λ (k : ℕ). readOf (scan (candidateAt long (s .s) (windowOf 14 (s .samples .now))) none (tabulate k placeAt))) e ∙ ap readOf (best-is (s .s) (windowOf 14 (s .samples .now)))
+
+pub find-spec : {M : Type 1} → statement M
+find-spec =
+    tie.close
+    (tie.spec
+    Inv-loop
+    μ-loop
+    nothing-requires
+    loop-holds
+    at-requires
+    read-at-requires
+    choose-requires
+    add-k
+    loop-less
+    loop-again
+    returns)

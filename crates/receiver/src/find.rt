@@ -1,0 +1,66 @@
+// The search over the 248 places.
+use crate::candidate::nothing;
+use crate::candidate::read_streams;
+use place::Place;
+use search::Read;
+use search::Settings;
+use trials::choice::choose;
+ghost use mathlib.Core.Path.{_≡_};
+ghost use mathlib.Core.Bool.{true};
+ghost use Prim.Native.Nat.{_≤_};
+ghost use lib.ListN.{length};
+ghost use Rattle.place.specs.All.{listed};
+ghost use Rattle.search.specs.Choice.{candidateAt, best};
+ghost use Rattle.search.specs.Kinds.{long};
+ghost use Rattle.search.specs.Seen.{windowOf};
+ghost use Rattle.search.specs.Answers.{readOf};
+ghost use Rattle.receiver.specs.Inner.{Ready};
+
+// The surviving reading of a place: its row of symbols and its two streams are lent.
+pub fn read_at<'a>(
+    samples: &[f32],
+    symbols: &[f32],
+    coherent: &'a [u8],
+    noncoherent: &'a [u8],
+    s: Settings,
+    place: Place,
+) -> Read
+    requires { ⌜ Ready (now samples) (now symbols) (now coherent) (now noncoherent) × (listed 31 place ≡ true) × (s .level ≤ 2) ⌝ }
+    ensures { λ r. ⌜ r ≡ readOf (candidateAt long s (windowOf 14 (now (samples .entry))) place) ⌝ }
+{
+    let phase = place.phase;
+    let symbol = place.symbol;
+    let from = 576 * phase;
+    let to = from + 576;
+    let at = 36 * phase + 18 * symbol;
+    let end = at + 18;
+    read_streams(
+        samples,
+        &symbols[from..to],
+        &coherent[at..end],
+        &noncoherent[at..end],
+        s,
+        place,
+    )
+}
+
+// The best of all places.
+pub fn find<'a>(
+    samples: &[f32],
+    symbols: &[f32],
+    coherent: &'a [u8],
+    noncoherent: &'a [u8],
+    s: Settings,
+) -> Read
+    requires { ⌜ Ready (now samples) (now symbols) (now coherent) (now noncoherent) × (s .level ≤ 2) ⌝ }
+    ensures { λ r. ⌜ r ≡ readOf (best long s (windowOf 14 (now (samples .entry)))) ⌝ }
+{
+    let mut held = nothing();
+    let mut k: usize = 0;
+    while k < 248 {
+        let new = read_at(samples, symbols, coherent, noncoherent, s, Place::at(k));
+        held = choose(held, new);
+        k += 1;
+    }
+    held
+}

@@ -3,11 +3,11 @@
 --     seen-there       the row and the streams of a place
 --     best-is          all 248 places
 -- Assumes nothing.
-use mathlib.Core.Path.{_≡_, refl, sym, ap, _∙_, subst}
+use mathlib.Core.Path.{_≡_, refl, ap, _∙_}
 use mathlib.Core.Bool.{true, cond}
 use mathlib.Core.List.{List}
-use mathlib.Core.Option.{Option, none, some}
-use Prim.Native.Nat.{ℕ, _+_, _*_, _<_, _≤_, min}
+use mathlib.Core.Option.{none, some}
+use Prim.Native.Nat.{ℕ, _+_, _*_, min}
 use native.Mathlib.Omega.{arith}
 use lib.ListN.{length, take, drop, length-take, length-drop}
 use lib.Ieee.{Float}
@@ -16,12 +16,10 @@ use Rattle.place.specs.declared.Place.{Place}
 use Rattle.place.specs.declared.Slicer.{Slicer}
 use Rattle.place.specs.declared.Slicer.the-variants.{Coherent, Noncoherent}
 use Rattle.place.specs.Part.{chosen}
-use Rattle.place.specs.All.{listed, allPlaces, placeAt}
-use Rattle.place.proofs.Within.{Listed, listed-gives}
-use Rattle.place.proofs.All.{counted, listed-at}
-use Rattle.kernels.specs.Symbols.{symbolsOf}
+use Rattle.place.specs.All.{listed, placeAt}
+use Rattle.place.proofs.Within.{listed-gives}
+use Rattle.place.proofs.All.{counted}
 use Rattle.kernels.proofs.Summing.{symbols-length}
-use Rattle.kernels.proofs.Slicing.{sliced-length}
 use Rattle.streams.specs.Streams.{messageAt}
 use Rattle.search.specs.declared.Settings.{Settings}
 use Rattle.search.specs.declared.Reading.{Reading}
@@ -29,7 +27,7 @@ use Rattle.search.specs.declared.Tried.{Tried}
 use Rattle.search.specs.declared.Tried.the-variants.{Pass, Fail}
 use Rattle.search.specs.declared.Candidate.{Candidate}
 use Rattle.search.specs.declared.Read.{Read}
-use Rattle.search.specs.Trials.{Kind, reading}
+use Rattle.search.specs.Trials.{reading}
 use Rattle.search.specs.Choice.{Window, candidate, dropped, survivor, candidateAt, scan, best}
 use Rattle.search.specs.Kinds.{long}
 use Rattle.search.specs.Seen.{row, stream, bitsAt, promptAt, noiseAt, windowOf}

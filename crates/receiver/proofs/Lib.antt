@@ -3,3 +3,4 @@ pub mod Looking
 pub mod Prompting
 pub mod Weighing
 pub mod Finding
+pub mod Deciding

@@ -3,7 +3,7 @@
 --     around          the prompt is the place itself or a neighbour
 --     stepped-        what a step answers
 -- Assumes nothing.
-use mathlib.Core.Path.{_≡_, refl, sym, ap, _∙_, subst}
+use mathlib.Core.Path.{_≡_, refl, sym, ap, _∙_}
 use mathlib.Core.Bool.{Bool, true, false, cond}
 use mathlib.Core.List.{List}
 use Prim.Native.Nat.{ℕ, _+_, _-_, _<_, _≤_}
@@ -14,7 +14,7 @@ use Rattle.place.specs.declared.Stepped.{Stepped}
 use Rattle.place.specs.declared.Stepped.the-variants.{To}
 use Rattle.place.specs.Step.{sampleStart, startingAt, within, earlierOf, laterOf}
 use Rattle.place.specs.All.{listed}
-use Rattle.place.proofs.Within.{Within, within-gives, within-is}
+use Rattle.place.proofs.Within.{within-gives, within-is}
 use Rattle.place.proofs.Steps.{own-start, start-of, starting-within, earlier-to, later-to, listed-within, listed-room}
 use Rattle.math.specs.Parabola.{parabola}
 use Rattle.timing.specs.declared.Timing.{Timing}

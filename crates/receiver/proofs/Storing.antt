@@ -3,7 +3,7 @@
 --     rows-part       the streams of a row stand in their part
 -- Assumes nothing.
 use mathlib.Core.Path.{_≡_, refl, sym, ap, ap₂, _∙_}
-use mathlib.Core.List.{List, [], _∷_, _++_, append-assoc, append-nil}
+use mathlib.Core.List.{List, _++_, append-assoc}
 use Prim.Native.Nat.{ℕ, zero, suc, _+_, _-_, _*_, _<_, _≤_}
 use native.Mathlib.Numerals.{add-one}
 use native.Mathlib.Omega.{arith}
@@ -14,7 +14,7 @@ use lib.Ieee.{Float}
 use Rattle.place.specs.declared.Slicer.{Slicer}
 use Rattle.place.specs.declared.Slicer.the-variants.{Coherent, Noncoherent}
 use Rattle.kernels.specs.Slices.{sliced, streamsOf, demodulated}
-use Rattle.kernels.proofs.Slicing.{streams-first, streams-second, streams-length, sliced-length, demodulated-done}
+use Rattle.kernels.proofs.Slicing.{streams-length, sliced-length, demodulated-done}
 use Rattle.receiver.specs.Inner.{rowsOf}
 
 module _ (slicer : Slicer) (symbols : List Float) where

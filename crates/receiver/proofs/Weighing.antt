@@ -4,7 +4,7 @@
 --     tried-pass, tried-fail    what the six trials answer, and that they are never refused
 --     read-pass, read-fail      what survives
 -- Assumes nothing.
-use mathlib.Core.Path.{_≡_, refl, sym, ap, _∙_, subst}
+use mathlib.Core.Path.{_≡_, refl, sym, ap, _∙_}
 use mathlib.Core.Bool.{Bool, true, false, cond}
 use mathlib.Core.List.{List}
 use mathlib.Core.Option.{none, some}
@@ -15,7 +15,6 @@ use Rattle.annex10.specs.Remainder.{remainder}
 use Rattle.annex10.specs.Repair.{inside, repaired}
 use Rattle.annex10.proofs.Positions.{proper-inside}
 use Rattle.place.specs.declared.Place.{Place}
-use Rattle.place.specs.declared.Slicer.the-variants.{Coherent, Noncoherent}
 use Rattle.place.specs.Part.{symbolsFor, samplesFor, chosen}
 use Rattle.kernels.specs.Powers.{powerOf, noiseOf}
 use Rattle.streams.specs.Streams.{messageAt}
@@ -28,7 +27,7 @@ use Rattle.search.specs.declared.Tried.the-variants as T
 use Rattle.search.specs.declared.Candidate.{Candidate}
 use Rattle.search.specs.declared.Read.{Read}
 use Rattle.search.specs.Trials.{reading}
-use Rattle.search.specs.Choice.{Window, candidate, dropped, survivor, candidateAt}
+use Rattle.search.specs.Choice.{candidate, dropped, survivor, candidateAt}
 use Rattle.search.specs.Kinds.{long}
 use Rattle.search.specs.Answers.{readOf}
 use Rattle.search.proofs.Passing.{sound}

@@ -8,6 +8,7 @@ use lib.Ieee.{Float}
 use Rattle.place.specs.declared.Place.{Place}
 use Rattle.place.specs.declared.Slicer.{Slicer}
 use Rattle.place.specs.declared.Slicer.the-variants.{Coherent, Noncoherent}
+use Rattle.place.specs.Step.{sampleStart}
 use Rattle.place.specs.Part.{symbolsFor, samplesFor, chosen}
 use Rattle.kernels.specs.Symbols.{symbolsOf}
 use Rattle.kernels.specs.Powers.{powerOf, noiseOf}
@@ -15,8 +16,12 @@ use Rattle.streams.specs.Streams.{messageAt}
 use Rattle.streams.specs.Distances.{differing}
 use Rattle.cn0.specs.Estimate.{cn0Of}
 use Rattle.timing.specs.declared.Offset.{Offset}
+use Rattle.timing.specs.declared.Moves.{Moves}
+use Rattle.timing.specs.declared.Moves.the-variants.{Back, On}
 use Rattle.search.specs.declared.Prompt.{Prompt}
+use Rattle.search.specs.declared.Timed.{Timed}
 use Rattle.search.specs.Choice.{Window}
+use Rattle.search.specs.Timed.{timingAt, indexOf}
 use Rattle.kernels.specs.Slices.{streamsOf}
 
 -- both streams of a slicer for each of the first k rows of symbols
@@ -57,3 +62,14 @@ seenAt samples row coherent noncoherent =
       prompt = λ p message. powerOf 14 (symbolsFor 14 row p) message;
       cn0 = λ p message. cn0Of (powerOf 14 (symbolsFor 14 row p) message) (noiseOf 14 (samplesFor 14 samples p) message);
     }
+
+-- how many samples are moved
+abbrev pub movesCount : Moves → ℕ
+movesCount (Back n) = n
+movesCount (On n) = n
+
+-- when a message came, from the symbols
+unfoldable pub timedIn : List Float → Place → List ℕ → ℕ → Timed
+timedIn symbols p message index =
+    let t = timingAt (seenIn symbols) message (sampleStart p) in
+    record { number = 0; index = indexOf index (sampleStart p) (t .moves); fraction = t .fraction }

@@ -1,5 +1,6 @@
 // From a window of samples to the answer.
 mod candidate;
+pub mod decode;
 mod find;
 mod message;
 mod powers;
@@ -7,3 +8,4 @@ mod refusals;
 mod rows;
 pub mod settings;
 mod subsample;
+mod window;

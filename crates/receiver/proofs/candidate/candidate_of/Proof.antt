@@ -4,30 +4,19 @@ use Rattle.receiver.proofs.Weighing.{candidate-is}
 use borrow.Author.Needs.{needs}
 use Rattle.receiver.proofs.candidate.candidate_of.Statement.{statement}
 use Rattle.receiver.proofs.candidate.candidate_of.Tie as tie
-use Rattle.receiver.proofs.candidate.candidate_of.Reads as reads
-use Rattle.receiver.proofs.candidate.candidate_of.Lts as lts
-use Rattle.cn0.proofs.estimate_cn0.Reads as estimate-cn0-reads
-use Rattle.receiver.proofs.message.message_at.Reads as message-at-reads
-use Rattle.receiver.proofs.powers.noise_power.Reads as noise-power-reads
-use Rattle.receiver.proofs.powers.prompt_power.Reads as prompt-power-reads
 
--- src/candidate.rt:94:9
 message-at-requires : tie.Need-message-at-requires
 message-at-requires c κs = search needs
 
--- src/candidate.rt:95:9
 prompt-power-requires : tie.Need-prompt-power-requires
 prompt-power-requires c κs = search needs
 
--- src/candidate.rt:96:36
 noise-power-requires : tie.Need-noise-power-requires
 noise-power-requires c κs = search needs
 
--- src/candidate.rt:96:9
 estimate-cn0-requires : tie.Need-estimate-cn0-requires
 estimate-cn0-requires c κs = search needs
 
--- src/candidate.rt:80:1
 returns : tie.Need-returns
 returns c =
     let s = c .before .before .before .before .before .before .before .before in

@@ -1,29 +1,22 @@
 -- `receiver::candidate::crc_at` meets its contract: the call is never refused.
 -- Assumes nothing.
-use mathlib.Core.Path.{_≡_, refl, sym, ap, _∙_, subst}
+use mathlib.Core.Path.{_≡_, _∙_}
 use native.Mathlib.Omega.{arith}
 use Prim.Native.Nat.{ℕ}
 use Rattle.streams.proofs.Reading.{crc-done}
 use borrow.Author.Needs.{needs}
 use Rattle.receiver.proofs.candidate.crc_at.Statement.{statement}
 use Rattle.receiver.proofs.candidate.crc_at.Tie as tie
-use Rattle.receiver.proofs.candidate.crc_at.Reads as reads
-use Rattle.receiver.proofs.candidate.crc_at.Lts as lts
-use Rattle.streams.proofs.crc.compute_crc.Reads as compute-crc-reads
 
--- src/candidate.rt:63:11
 compute-crc-requires : tie.Need-compute-crc-requires
 compute-crc-requires c κs = search needs
 
--- src/candidate.rt:64:17
 enum-known-crc : tie.Need-enum-known-crc
 enum-known-crc c = search needs
 
--- src/candidate.rt:65:28
 enum-told : tie.Need-enum-told
 enum-told c = search needs
 
--- src/candidate.rt:59:1
 returns : tie.Need-returns
 returns c =
     let s = c .before .before .before .before .before in
@@ -31,7 +24,6 @@ returns c =
     let f = c .before .crc .given .1 in
     cc
 
--- src/candidate.rt:59:1
 returns-2 : tie.Need-returns-2
 returns-2 c =
     let s = c .before .before .before .before in

@@ -1,29 +1,22 @@
 -- `receiver::candidate::distance_at` meets its contract: the call is never refused.
 -- Assumes nothing.
-use mathlib.Core.Path.{_≡_, refl, sym, ap, _∙_, subst}
+use mathlib.Core.Path.{_≡_, _∙_}
 use native.Mathlib.Omega.{arith}
 use Prim.Native.Nat.{ℕ}
 use Rattle.streams.proofs.Comparing.{distance-done}
 use borrow.Author.Needs.{needs}
 use Rattle.receiver.proofs.candidate.distance_at.Statement.{statement}
 use Rattle.receiver.proofs.candidate.distance_at.Tie as tie
-use Rattle.receiver.proofs.candidate.distance_at.Reads as reads
-use Rattle.receiver.proofs.candidate.distance_at.Lts as lts
-use Rattle.streams.proofs.distance.compute_hamming_distance.Reads as compute-hamming-distance-reads
 
--- src/candidate.rt:73:11
 compute-hamming-distance-requires : tie.Need-compute-hamming-distance-requires
 compute-hamming-distance-requires c κs = search needs
 
--- src/candidate.rt:74:22
 enum-known-d : tie.Need-enum-known-d
 enum-known-d c = search needs
 
--- src/candidate.rt:75:33
 enum-told : tie.Need-enum-told
 enum-told c = search needs
 
--- src/candidate.rt:69:1
 returns : tie.Need-returns
 returns c =
     let s = c .before .before .before .before .before .before in
@@ -31,7 +24,6 @@ returns c =
     let f = c .before .d .given .1 in
     cc
 
--- src/candidate.rt:69:1
 returns-2 : tie.Need-returns-2
 returns-2 c =
     let s = c .before .before .before .before .before in

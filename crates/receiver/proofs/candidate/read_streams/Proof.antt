@@ -1,76 +1,55 @@
 -- `receiver::candidate::read_streams` meets its contract: the trials, the candidate, the filter.
 -- Assumes nothing.
-use mathlib.Core.Path.{_≡_, refl, sym, ap, _∙_, subst}
 use Rattle.receiver.proofs.Weighing.{tried-pass, tried-fail, tried-never, reading-inside, read-pass, read-fail}
 use borrow.Author.Needs.{needs}
 use Rattle.receiver.proofs.candidate.read_streams.Statement.{statement}
 use Rattle.receiver.proofs.candidate.read_streams.Tie as tie
-use Rattle.receiver.proofs.candidate.read_streams.Reads as reads
-use Rattle.receiver.proofs.candidate.read_streams.Lts as lts
-use Rattle.receiver.proofs.candidate.candidate_of.Reads as candidate-of-reads
-use Rattle.receiver.proofs.candidate.crc_at.Reads as crc-at-reads
-use Rattle.receiver.proofs.candidate.nothing.Reads as nothing-reads
-use Rattle.receiver.proofs.candidate.survives.Reads as survives-reads
-use Rattle.trials.proofs.six.try_decode.Reads as try-decode-reads
 
--- src/candidate.rt:143:9
 crc-at-requires : tie.Need-crc-at-requires
 crc-at-requires c κs = search needs
 
--- src/candidate.rt:144:9
 crc-at-requires-2 : tie.Need-crc-at-requires-2
 crc-at-requires-2 c κs = search needs
 
--- src/candidate.rt:145:11
 try-decode-requires : tie.Need-try-decode-requires
 try-decode-requires c κs = search needs
 
--- src/candidate.rt:146:23
 enum-known-reading : tie.Need-enum-known-reading
 enum-known-reading c = search needs
 
--- src/candidate.rt:151:13
 candidate-of-requires : tie.Need-candidate-of-requires
 candidate-of-requires c κs =
     let s = c .before .before .before .before .before .before .before .before .before .before in
     let t = tried-pass (s .args .samples .now) (s .args .row .now) (s .args .coherent .now) (s .args .noncoherent .now) (s .args .place) (s .args .s .level) (s .pre .2) (s .pre .4) (c .before .before .before .before .before .crc-at .ensures) (c .before .before .before .before .crc-at2 .ensures) (c .before .before .before .try-decode .ensures) (c .before .reading .given .1) in
     (s .pre .0, s .pre .1, s .pre .2, s .pre .3, reading-inside (s .args .samples .now) (s .args .row .now) (s .args .coherent .now) (s .args .noncoherent .now) (s .args .place) (s .args .s .level) t)
 
--- src/candidate.rt:146:35
 survives-requires : tie.Need-survives-requires
 survives-requires c κs = search needs
 
--- src/candidate.rt:153:26
 enum-told : tie.Need-enum-told
 enum-told c = search needs
 
--- src/candidate.rt:153:26
 nothing-requires : tie.Need-nothing-requires
 nothing-requires c κs = search needs
 
--- src/candidate.rt:154:32
 enum-told-2 : tie.Need-enum-told-2
 enum-told-2 c = search needs
 
--- src/candidate.rt:154:32
 nothing-requires-2 : tie.Need-nothing-requires-2
 nothing-requires-2 c κs = search needs
 
--- src/candidate.rt:130:1
 returns : tie.Need-returns
 returns c =
     let s = c .before .before .before .before .before .before .before .before .before .before .before .before in
     let t = tried-pass (s .args .samples .now) (s .args .row .now) (s .args .coherent .now) (s .args .noncoherent .now) (s .args .place) (s .args .s .level) (s .pre .2) (s .pre .4) (c .before .before .before .before .before .before .before .crc-at .ensures) (c .before .before .before .before .before .before .crc-at2 .ensures) (c .before .before .before .before .before .try-decode .ensures) (c .before .before .before .reading .given .1) in
     read-pass (s .args .samples .now) (s .args .row .now) (s .args .coherent .now) (s .args .noncoherent .now) (s .args .place) (s .args .s) (s .pre .4) t (c .before .candidate-of .ensures) (c .survives .ensures)
 
--- src/candidate.rt:130:1
 returns-2 : tie.Need-returns-2
 returns-2 c =
     let s = c .before .before .before .before .before .before .before .before .before .before in
     let t = tried-fail (s .args .samples .now) (s .args .row .now) (s .args .coherent .now) (s .args .noncoherent .now) (s .args .place) (s .args .s .level) (s .pre .2) (s .pre .4) (c .before .before .before .before .before .crc-at .ensures) (c .before .before .before .before .crc-at2 .ensures) (c .before .before .before .try-decode .ensures) (c .before .enum-told .given .1) in
     read-fail (s .args .samples .now) (s .args .row .now) (s .args .coherent .now) (s .args .noncoherent .now) (s .args .place) (s .args .s) (s .pre .4) t (c .nothing .ensures)
 
--- src/candidate.rt:130:1
 returns-3 : tie.Need-returns-3
 returns-3 c =
     let s = c .before .before .before .before .before .before .before .before .before .before in

@@ -1,43 +1,30 @@
 -- `receiver::candidate::survives` meets its contract: without two repairs nothing is dropped, whatever the distance.
 -- Assumes nothing.
-use mathlib.Core.Path.{_≡_, refl, sym, ap, _∙_, subst}
+use mathlib.Core.Path.{sym, _∙_}
 use Rattle.trials.proofs.Filtering.{not-two}
 use Rattle.receiver.proofs.Weighing.{kept, gone}
 use borrow.Author.Needs.{needs}
 use Rattle.receiver.proofs.candidate.survives.Statement.{statement}
 use Rattle.receiver.proofs.candidate.survives.Tie as tie
-use Rattle.receiver.proofs.candidate.survives.Reads as reads
-use Rattle.receiver.proofs.candidate.survives.Lts as lts
-use Rattle.receiver.proofs.candidate.distance_at.Reads as distance-at-reads
-use Rattle.receiver.proofs.candidate.nothing.Reads as nothing-reads
-use Rattle.trials.proofs.choice.repairs_of.Reads as repairs-of-reads
-use Rattle.trials.proofs.filter.filter_out_decode_candidate.Reads as filter-out-decode-candidate-reads
 
--- src/candidate.rt:114:8
 repairs-of-requires : tie.Need-repairs-of-requires
 repairs-of-requires c κs = search needs
 
--- src/candidate.rt:115:9
 returns : tie.Need-returns
 returns c = kept (c .before .before .before .before .args .c) (sym (not-two (c .before .before .before .before .args .s) _ (c .before .before .before .before .args .c) (c .before .repairs-of .ensures) (c .if1 .taken)))
 
--- src/candidate.rt:120:39
 distance-at-requires : tie.Need-distance-at-requires
 distance-at-requires c κs = search needs
 
--- src/candidate.rt:120:8
 filter-out-decode-candidate-requires : tie.Need-filter-out-decode-candidate-requires
 filter-out-decode-candidate-requires c κs = search needs
 
--- src/candidate.rt:121:9
 nothing-requires : tie.Need-nothing-requires
 nothing-requires c κs = search needs
 
--- src/candidate.rt:121:9
 returns-2 : tie.Need-returns-2
 returns-2 c = gone (c .before .before .before .before .before .before .before .before .args .c) (rw (c .before .before .before .distance-at .ensures) at (sym (c .before .before .filter-out-decode-candidate .ensures)) ∙ c .before .if2 .taken) (c .nothing .ensures)
 
--- src/candidate.rt:109:1
 returns-3 : tie.Need-returns-3
 returns-3 c = kept (c .before .before .before .before .before .before .before .args .c) (rw (c .before .before .distance-at .ensures) at (sym (c .before .filter-out-decode-candidate .ensures)) ∙ c .if2 .left)
 

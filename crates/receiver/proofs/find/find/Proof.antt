@@ -1,7 +1,7 @@
 -- `receiver::find::find` meets its contract. The loop's invariant: what is held is the best of the first k places.
 -- Assumes nothing.
 use borrow.Author.Needs.{needs}
-use mathlib.Core.Path.{_≡_, refl, sym, ap, _∙_, subst}
+use mathlib.Core.Path.{_≡_, sym, ap, _∙_, subst}
 use native.Mathlib.Omega.{arith}
 use mathlib.Core.Bool.{true}
 use mathlib.Core.Option.{none}
@@ -19,12 +19,6 @@ use Rattle.trials.proofs.Choosing.{chosen-more}
 use Rattle.receiver.proofs.Finding.{best-is}
 use Rattle.receiver.proofs.find.find.Statement.{statement}
 use Rattle.receiver.proofs.find.find.Tie as tie
-use Rattle.receiver.proofs.find.find.Reads as reads
-use Rattle.receiver.proofs.find.find.Lts as lts
-use Rattle.place.proofs.Place.at.Reads as at-reads
-use Rattle.receiver.proofs.candidate.nothing.Reads as nothing-reads
-use Rattle.receiver.proofs.find.read_at.Reads as read-at-reads
-use Rattle.trials.proofs.choice.choose.Reads as choose-reads
 
 abbrev Inv-loop : tie.InvT-loop
 Inv-loop samples symbols coherent noncoherent s held₀ k₀ held k = (k ≤ 248) × (held ≡ readOf (scan (candidateAt long s (windowOf 14 samples)) none (tabulate k placeAt)))
@@ -32,39 +26,31 @@ Inv-loop samples symbols coherent noncoherent s held₀ k₀ held k = (k ≤ 248
 abbrev μ-loop : tie.MeasureT-loop
 μ-loop samples symbols coherent noncoherent s held₀ k₀ held k = 248 - k
 
--- src/find.rt:58:9
 nothing-requires : tie.Need-nothing-requires Inv-loop μ-loop
 nothing-requires c κs = search needs
 
--- src/find.rt:60:5
 loop-holds : tie.Need-loop-holds Inv-loop μ-loop
 loop-holds c =
     let s = c .before .before .before .before .before .args in
     (search needs, c .nothing .ensures ∙ ap readOf (scan-start (candidateAt long (s .s) (windowOf 14 (s .samples .now))) placeAt))
 
--- src/find.rt:61:71
 at-requires : tie.Need-at-requires Inv-loop μ-loop
 at-requires c κs = search needs
 
--- src/find.rt:61:13
 read-at-requires : tie.Need-read-at-requires Inv-loop μ-loop
 read-at-requires c κs =
     let s = c .before .before .before .before .before .before .before .before in
     (s .pre .0, subst (λ (p : Place). listed 31 p ≡ true) (sym (c .at .ensures)) (listed-at 31 (c .before .before .loop .k) (omega arith)), s .pre .1)
 
--- src/find.rt:62:9
 choose-requires : tie.Need-choose-requires Inv-loop μ-loop
 choose-requires c κs = search needs
 
--- src/find.rt:63:9
 add-k : tie.Need-add-k Inv-loop μ-loop
 add-k c = omega arith
 
--- src/find.rt:60:5
 loop-less : tie.Need-loop-less Inv-loop μ-loop
 loop-less c = omega arith
 
--- src/find.rt:60:5
 loop-again : tie.Need-loop-again Inv-loop μ-loop
 loop-again c =
     let l = c .before .before .before .before .loop in
@@ -72,7 +58,6 @@ loop-again c =
     let f = candidateAt long (s .s) (windowOf 14 (s .samples .now)) in
     (omega arith, chosen-more f placeAt (l .k) (l .inv .1) (c .before .read-at .ensures ∙ ap (λ (p : Place). readOf (f p)) (c .before .before .at .ensures)) (c .choose .ensures))
 
--- src/find.rt:48:1
 returns : tie.Need-returns Inv-loop μ-loop
 returns c =
     let l = c .before .loop in

@@ -1,6 +1,5 @@
 -- `receiver::find::read_at` meets its contract: the row and the streams of the place are lent.
 -- Assumes nothing.
-use mathlib.Core.Path.{_≡_, refl, sym, ap, _∙_, subst}
 use native.Mathlib.Omega.{arith}
 use Prim.Native.Nat.{_+_, _-_, _*_}
 use Rattle.place.proofs.Within.{listed-gives}
@@ -9,81 +8,60 @@ use Rattle.receiver.proofs.Finding.{ready-sizes, lent-row, lent-streams
 use borrow.Author.Needs.{needs}
 use Rattle.receiver.proofs.find.read_at.Statement.{statement}
 use Rattle.receiver.proofs.find.read_at.Tie as tie
-use Rattle.receiver.proofs.find.read_at.Reads as reads
-use Rattle.receiver.proofs.find.read_at.Lts as lts
-use Rattle.receiver.proofs.candidate.read_streams.Reads as read-streams-reads
 
--- src/find.rt:33:16
 mul-from : tie.Need-mul-from
 mul-from c = let l = listed-gives 31 (c .before .before .before .before .args .place) (c .before .before .before .before .pre .1) in let z = ready-sizes _ _ _ _ (c .before .before .before .before .pre .0) in omega (arith, z .sums, z .first, z .second)
 
--- src/find.rt:34:14
 add-to : tie.Need-add-to
 add-to c = let l = listed-gives 31 (c .before .before .before .before .args .place) (c .before .before .before .before .pre .1) in let z = ready-sizes _ _ _ _ (c .before .before .before .before .pre .0) in omega (arith, z .sums, z .first, z .second)
 
--- src/find.rt:35:14
 mul-at : tie.Need-mul-at
 mul-at c = let l = listed-gives 31 (c .before .before .before .before .args .place) (c .before .before .before .before .pre .1) in let z = ready-sizes _ _ _ _ (c .before .before .before .before .pre .0) in omega (arith, z .sums, z .first, z .second)
 
--- src/find.rt:35:27
 mul-at-2 : tie.Need-mul-at-2
 mul-at-2 c = let l = listed-gives 31 (c .before .before .before .before .args .place) (c .before .before .before .before .pre .1) in let z = ready-sizes _ _ _ _ (c .before .before .before .before .pre .0) in omega (arith, z .sums, z .first, z .second)
 
--- src/find.rt:35:14
 add-at : tie.Need-add-at
 add-at c = let l = listed-gives 31 (c .before .before .before .before .args .place) (c .before .before .before .before .pre .1) in let z = ready-sizes _ _ _ _ (c .before .before .before .before .pre .0) in omega (arith, z .sums, z .first, z .second)
 
--- src/find.rt:36:15
 add-end : tie.Need-add-end
 add-end c = let l = listed-gives 31 (c .before .before .before .before .args .place) (c .before .before .before .before .pre .1) in let z = ready-sizes _ _ _ _ (c .before .before .before .before .pre .0) in omega (arith, z .sums, z .first, z .second)
 
--- src/find.rt:39:9
 mul-read-streams : tie.Need-mul-read-streams
 mul-read-streams c = let l = listed-gives 31 (c .before .before .before .before .args .place) (c .before .before .before .before .pre .1) in let z = ready-sizes _ _ _ _ (c .before .before .before .before .pre .0) in omega (arith, z .sums, z .first, z .second)
 
--- src/find.rt:39:9
 sub-read-streams : tie.Need-sub-read-streams
 sub-read-streams c = search needs
 
--- src/find.rt:39:9
 part-read-streams-start : tie.Need-part-read-streams-start
 part-read-streams-start c = search needs
 
--- src/find.rt:39:9
 part-read-streams-end : tie.Need-part-read-streams-end
 part-read-streams-end c = let l = listed-gives 31 (c .before .before .before .before .args .place) (c .before .before .before .before .pre .1) in let z = ready-sizes _ _ _ _ (c .before .before .before .before .pre .0) in omega (arith, z .sums, z .first, z .second)
 
--- src/find.rt:40:9
 sub-read-streams-2 : tie.Need-sub-read-streams-2
 sub-read-streams-2 c = search needs
 
--- src/find.rt:40:9
 part-read-streams-start-2 : tie.Need-part-read-streams-start-2
 part-read-streams-start-2 c = search needs
 
--- src/find.rt:40:9
 part-read-streams-end-2 : tie.Need-part-read-streams-end-2
 part-read-streams-end-2 c = let l = listed-gives 31 (c .before .before .before .before .before .args .place) (c .before .before .before .before .before .pre .1) in let z = ready-sizes _ _ _ _ (c .before .before .before .before .before .pre .0) in omega (arith, z .sums, z .first, z .second)
 
--- src/find.rt:41:9
 sub-read-streams-3 : tie.Need-sub-read-streams-3
 sub-read-streams-3 c = search needs
 
--- src/find.rt:41:9
 part-read-streams-start-3 : tie.Need-part-read-streams-start-3
 part-read-streams-start-3 c = search needs
 
--- src/find.rt:41:9
 part-read-streams-end-3 : tie.Need-part-read-streams-end-3
 part-read-streams-end-3 c = let l = listed-gives 31 (c .before .before .before .before .before .before .args .place) (c .before .before .before .before .before .before .pre .1) in let z = ready-sizes _ _ _ _ (c .before .before .before .before .before .before .pre .0) in omega (arith, z .sums, z .first, z .second)
 
--- src/find.rt:37:5
 read-streams-requires : tie.Need-read-streams-requires
 read-streams-requires c κs =
     let s = c .before .before .before .before .before .before .before in
     (s .pre .0 .whole, lent-row (s .args .samples .now) (s .args .symbols .now) (s .args .coherent .now) (s .args .noncoherent .now) (s .pre .0) (s .args .place) (s .pre .1) (576 * s .args .place .phase + 576 - 576 * s .args .place .phase) (36 * s .args .place .phase + 18 * s .args .place .symbol + 18 - (36 * s .args .place .phase + 18 * s .args .place .symbol)) (omega arith) (omega arith), lent-streams (s .args .samples .now) (s .args .symbols .now) (s .args .coherent .now) (s .args .noncoherent .now) (s .pre .0) (s .args .place) (s .pre .1) (576 * s .args .place .phase + 576 - 576 * s .args .place .phase) (36 * s .args .place .phase + 18 * s .args .place .symbol + 18 - (36 * s .args .place .phase + 18 * s .args .place .symbol)) (omega arith) (omega arith), room (s .args .place) (s .pre .1) .within-it, s .pre .2)
 
--- src/find.rt:20:1
 returns : tie.Need-returns
 returns c =
     let s = c .before .before .before .before .before .before .before .before in

@@ -1,38 +1,28 @@
 -- `receiver::powers::noise_power` meets its contract: the part for the place is never refused.
 -- Assumes nothing.
-use mathlib.Core.Path.{_≡_, sym, ap, _∙_}
+use mathlib.Core.Path.{_≡_}
 use Prim.Native.Nat.{ℕ}
 use native.Mathlib.Omega.{arith}
 use Rattle.receiver.proofs.Looking.{noise-is}
 use borrow.Author.Needs.{needs}
 use Rattle.receiver.proofs.powers.noise_power.Statement.{statement}
 use Rattle.receiver.proofs.powers.noise_power.Tie as tie
-use Rattle.receiver.proofs.powers.noise_power.Reads as reads
-use Rattle.receiver.proofs.powers.noise_power.Lts as lts
-use Rattle.kernels.proofs.power.postdecode_noise_power.Reads as postdecode-noise-power-reads
-use Rattle.place.proofs.parts.samples_for_place.Reads as samples-for-place-reads
 
--- src/powers.rt:32:9
 samples-for-place-requires : tie.Need-samples-for-place-requires
 samples-for-place-requires c κs = search needs
 
--- src/powers.rt:33:40
 slice-aggregate-postdecode-noise-power : tie.Need-slice-aggregate-postdecode-noise-power
 slice-aggregate-postdecode-noise-power c = search needs
 
--- src/powers.rt:33:11
 postdecode-noise-power-requires : tie.Need-postdecode-noise-power-requires
 postdecode-noise-power-requires c κs = search needs
 
--- src/powers.rt:34:19
 enum-known-power : tie.Need-enum-known-power
 enum-known-power c = search needs
 
--- src/powers.rt:35:30
 enum-told : tie.Need-enum-told
 enum-told c = search needs
 
--- src/powers.rt:28:1
 returns : tie.Need-returns
 returns c =
     let s = c .before .before .before .before .before .before .before in
@@ -40,7 +30,6 @@ returns c =
     let f = c .before .power .given .1 in
     cc
 
--- src/powers.rt:28:1
 returns-2 : tie.Need-returns-2
 returns-2 c =
     let s = c .before .before .before .before .before .before in

@@ -1,38 +1,28 @@
 -- `receiver::powers::prompt_power` meets its contract: the part for the place is never refused.
 -- Assumes nothing.
-use mathlib.Core.Path.{_≡_, sym, ap, _∙_}
+use mathlib.Core.Path.{_≡_}
 use Prim.Native.Nat.{ℕ}
 use native.Mathlib.Omega.{arith}
 use Rattle.receiver.proofs.Looking.{power-is}
 use borrow.Author.Needs.{needs}
 use Rattle.receiver.proofs.powers.prompt_power.Statement.{statement}
 use Rattle.receiver.proofs.powers.prompt_power.Tie as tie
-use Rattle.receiver.proofs.powers.prompt_power.Reads as reads
-use Rattle.receiver.proofs.powers.prompt_power.Lts as lts
-use Rattle.kernels.proofs.power.postdecode_power.Reads as postdecode-power-reads
-use Rattle.place.proofs.parts.symbols_for_place.Reads as symbols-for-place-reads
 
--- src/powers.rt:20:9
 symbols-for-place-requires : tie.Need-symbols-for-place-requires
 symbols-for-place-requires c κs = search needs
 
--- src/powers.rt:21:34
 slice-aggregate-postdecode-power : tie.Need-slice-aggregate-postdecode-power
 slice-aggregate-postdecode-power c = search needs
 
--- src/powers.rt:21:11
 postdecode-power-requires : tie.Need-postdecode-power-requires
 postdecode-power-requires c κs = search needs
 
--- src/powers.rt:22:19
 enum-known-power : tie.Need-enum-known-power
 enum-known-power c = search needs
 
--- src/powers.rt:23:30
 enum-told : tie.Need-enum-told
 enum-told c = search needs
 
--- src/powers.rt:16:1
 returns : tie.Need-returns
 returns c =
     let s = c .before .before .before .before .before .before .before in
@@ -40,7 +30,6 @@ returns c =
     let f = c .before .power .given .1 in
     cc
 
--- src/powers.rt:16:1
 returns-2 : tie.Need-returns-2
 returns-2 c =
     let s = c .before .before .before .before .before .before in

@@ -1,18 +1,14 @@
 -- `receiver::refusals::check_window` meets its contract.
 -- Assumes nothing.
-use borrow.Author.Tests.{eq-eqb, ne-eqb, le-leb, lt-leb, not-true, not-false}
+use borrow.Author.Tests.{eq-eqb, ne-eqb}
 use Rattle.search.specs.Answers.{windowNumber}
 use Rattle.receiver.proofs.refusals.check_window.Statement.{statement}
 use Rattle.receiver.proofs.refusals.check_window.Tie as tie
-use Rattle.receiver.proofs.refusals.check_window.Reads as reads
-use Rattle.receiver.proofs.refusals.check_window.Lts as lts
 
--- src/refusals.rt:11:9
 returns : tie.Need-returns
 unfolding windowNumber
 returns c = simp (ne-eqb _ _ (c .if1 .taken))
 
--- src/refusals.rt:7:1
 returns-2 : tie.Need-returns-2
 unfolding windowNumber
 returns-2 c = simp (eq-eqb _ _ (c .if1 .left))

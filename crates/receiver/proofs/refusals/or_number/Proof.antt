@@ -1,17 +1,12 @@
 -- `receiver::refusals::or_number` meets its contract.
 -- Assumes nothing.
-use borrow.Author.Tests.{eq-eqb, ne-eqb, le-leb, lt-leb, not-true, not-false}
-use Rattle.search.specs.Answers.{orNumber}
+use borrow.Author.Tests.{eq-eqb, ne-eqb}
 use Rattle.receiver.proofs.refusals.or_number.Statement.{statement}
 use Rattle.receiver.proofs.refusals.or_number.Tie as tie
-use Rattle.receiver.proofs.refusals.or_number.Reads as reads
-use Rattle.receiver.proofs.refusals.or_number.Lts as lts
 
--- src/refusals.rt:27:1
 returns : tie.Need-returns
 returns c = simp (eq-eqb _ _ (c .if1 .taken))
 
--- src/refusals.rt:27:1
 returns-2 : tie.Need-returns-2
 returns-2 c = simp (ne-eqb _ _ (c .if1 .left))
 

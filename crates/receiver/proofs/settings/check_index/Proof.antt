@@ -1,23 +1,18 @@
 -- `receiver::settings::check_index` meets its contract.
 -- Assumes nothing.
-use borrow.Author.Tests.{eq-eqb, ne-eqb, le-leb, lt-leb, not-true, not-false}
+use borrow.Author.Tests.{le-leb, lt-leb}
 use Rattle.search.specs.Answers.{indexNumber}
 use Rattle.receiver.proofs.settings.check_index.Statement.{statement}
 use Rattle.receiver.proofs.settings.check_index.Tie as tie
-use Rattle.receiver.proofs.settings.check_index.Reads as reads
-use Rattle.receiver.proofs.settings.check_index.Lts as lts
 
--- src/settings.rt:28:9
 returns : tie.Need-returns
 unfolding indexNumber
 returns c = simp (lt-leb _ _ (c .if1 .taken))
 
--- src/settings.rt:31:9
 returns-2 : tie.Need-returns-2
 unfolding indexNumber
 returns-2 c = simp (le-leb _ _ (c .before .if1 .left), lt-leb _ _ (c .if2 .taken))
 
--- src/settings.rt:24:1
 returns-3 : tie.Need-returns-3
 unfolding indexNumber
 returns-3 c = simp (le-leb _ _ (c .before .if1 .left), le-leb _ _ (c .if2 .left))

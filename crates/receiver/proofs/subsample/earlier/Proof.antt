@@ -1,9 +1,9 @@
 -- `receiver::subsample::earlier` meets its contract: the step is never refused.
 -- Assumes nothing.
 use Rattle.place.specs.Step.{sampleStart, startingAt}
-use mathlib.Core.Path.{_≡_, refl, sym, ap, _∙_, subst}
+use mathlib.Core.Path.{_≡_, sym, subst}
 use native.Mathlib.Omega.{arith}
-use Prim.Native.Nat.{ℕ, _+_, _-_, _*_}
+use Prim.Native.Nat.{ℕ, _-_}
 use mathlib.Core.Bool.{true}
 use Rattle.place.specs.declared.Place.{Place}
 use Rattle.place.specs.Step.{within}
@@ -11,23 +11,16 @@ use Rattle.receiver.proofs.Prompting.{stepped-back, back-within}
 use borrow.Author.Needs.{needs}
 use Rattle.receiver.proofs.subsample.earlier.Statement.{statement}
 use Rattle.receiver.proofs.subsample.earlier.Tie as tie
-use Rattle.receiver.proofs.subsample.earlier.Reads as reads
-use Rattle.receiver.proofs.subsample.earlier.Lts as lts
-use Rattle.place.proofs.Place.earlier.Reads as earlier-reads
 
--- src/subsample.rt:35:11
 earlier-requires : tie.Need-earlier-requires
 earlier-requires c κs = search needs
 
--- src/subsample.rt:36:21
 enum-known-p : tie.Need-enum-known-p
 enum-known-p c = search needs
 
--- src/subsample.rt:37:32
 enum-told : tie.Need-enum-told
 enum-told c = search needs
 
--- src/subsample.rt:31:1
 returns : tie.Need-returns
 returns c =
     let s = c .before .before .before .before in
@@ -36,7 +29,6 @@ returns c =
     let q : c .before .p .given .0 .0 ≡ startingAt (sampleStart (s .args .place) - 1) = cc in
     (q, subst (λ (p : Place). within 14 p ≡ true) (sym q) (back-within (s .args .place) (s .pre .0)))
 
--- src/subsample.rt:31:1
 returns-2 : tie.Need-returns-2
 returns-2 c =
     let s = c .before .before .before in

@@ -1,47 +1,35 @@
 -- `receiver::subsample::power_at` meets its contract: the row of the place's clock phase is lent.
 -- Assumes nothing.
-use mathlib.Core.Path.{_≡_, refl, sym, ap, _∙_, subst}
+use mathlib.Core.Path.{_≡_}
 use native.Mathlib.Omega.{arith}
-use Prim.Native.Nat.{ℕ, _+_, _-_, _*_}
-use lib.ListN.{length, take, drop}
+use Prim.Native.Nat.{_+_, _-_, _*_}
 use Rattle.place.proofs.Within.{within-gives}
 use Rattle.receiver.specs.Inner.{powerIn}
 use borrow.Author.Needs.{needs}
 use Rattle.receiver.proofs.subsample.power_at.Statement.{statement}
 use Rattle.receiver.proofs.subsample.power_at.Tie as tie
-use Rattle.receiver.proofs.subsample.power_at.Reads as reads
-use Rattle.receiver.proofs.subsample.power_at.Lts as lts
-use Rattle.receiver.proofs.powers.prompt_power.Reads as prompt-power-reads
 
--- src/subsample.rt:26:16
 mul-from : tie.Need-mul-from
 mul-from c = let w = within-gives 14 (c .before .args .place) (c .before .pre .1) in omega arith
 
--- src/subsample.rt:27:14
 add-to : tie.Need-add-to
 add-to c = let w = within-gives 14 (c .before .args .place) (c .before .pre .1) in omega arith
 
--- src/subsample.rt:28:18
 mul-prompt-power : tie.Need-mul-prompt-power
 mul-prompt-power c = let w = within-gives 14 (c .before .args .place) (c .before .pre .1) in omega arith
 
--- src/subsample.rt:28:18
 sub-prompt-power : tie.Need-sub-prompt-power
 sub-prompt-power c = search needs
 
--- src/subsample.rt:28:18
 part-prompt-power-start : tie.Need-part-prompt-power-start
 part-prompt-power-start c = search needs
 
--- src/subsample.rt:28:18
 part-prompt-power-end : tie.Need-part-prompt-power-end
 part-prompt-power-end c = let w = within-gives 14 (c .before .args .place) (c .before .pre .1) in omega arith
 
--- src/subsample.rt:28:5
 prompt-power-requires : tie.Need-prompt-power-requires
 prompt-power-requires c κs = search needs
 
--- src/subsample.rt:21:1
 returns : tie.Need-returns
 unfolding powerIn
 returns c =

@@ -1,6 +1,6 @@
 -- `receiver::subsample::subsample` meets its contract: the prompt is the place or a neighbour, so it has neighbours itself.
 -- Assumes nothing.
-use mathlib.Core.Path.{_≡_, refl, sym, ap, _∙_, subst}
+use mathlib.Core.Path.{sym, _∙_, subst}
 use Rattle.search.specs.Timed.{timingAt}
 use Rattle.place.specs.Step.{sampleStart}
 use Rattle.receiver.specs.Inner.{seenIn}
@@ -9,16 +9,10 @@ use Rattle.search.specs.declared.Prompt.{Prompt}
 use borrow.Author.Needs.{needs}
 use Rattle.receiver.proofs.subsample.subsample.Statement.{statement}
 use Rattle.receiver.proofs.subsample.subsample.Tie as tie
-use Rattle.receiver.proofs.subsample.subsample.Reads as reads
-use Rattle.receiver.proofs.subsample.subsample.Lts as lts
-use Rattle.receiver.proofs.subsample.prompt_of.Reads as prompt-of-reads
-use Rattle.receiver.proofs.subsample.time_about.Reads as time-about-reads
 
--- src/subsample.rt:101:25
 prompt-of-requires : tie.Need-prompt-of-requires
 prompt-of-requires c κs = search needs
 
--- src/subsample.rt:101:5
 time-about-requires : tie.Need-time-about-requires
 time-about-requires c κs =
     let s = c .before .before in
@@ -27,7 +21,6 @@ time-about-requires c κs =
     let i = subst (λ (p : Prompt). Inner-place (p .place)) (sym (c .prompt-of .ensures)) (inner (sampleStart (s .args .place)) _ (r .low) (r .high) a) in
     (s .pre .0, i .within-it, i .low, i .high)
 
--- src/subsample.rt:97:1
 returns : tie.Need-returns
 unfolding timingAt
 returns c = c .time-about .ensures ∙ rw (c .before .prompt-of .ensures)

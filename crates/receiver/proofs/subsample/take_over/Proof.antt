@@ -3,15 +3,11 @@
 use Rattle.search.specs.Timed.{over}
 use Rattle.receiver.proofs.subsample.take_over.Statement.{statement}
 use Rattle.receiver.proofs.subsample.take_over.Tie as tie
-use Rattle.receiver.proofs.subsample.take_over.Reads as reads
-use Rattle.receiver.proofs.subsample.take_over.Lts as lts
 
--- src/subsample.rt:68:9
 returns : tie.Need-returns
 unfolding over
 returns c = rw (c .if1 .taken)
 
--- src/subsample.rt:64:1
 returns-2 : tie.Need-returns-2
 unfolding over
 returns-2 c = rw (c .if1 .left)

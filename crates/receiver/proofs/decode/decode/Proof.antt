@@ -1,0 +1,69 @@
+-- `receiver::decode::decode` meets its contract: what is found lies at a place that is searched, so it can be timed.
+-- Assumes nothing.
+use mathlib.Core.List.{List}
+use lib.Ieee.{Float}
+use mathlib.Core.Path.{ap, _∙_}
+use lib.ListN.{length}
+use Rattle.kernels.proofs.Summing.{symbols-length}
+use Rattle.receiver.specs.Inner.{timedIn}
+use Rattle.receiver.proofs.Deciding.{decode-taken, read-some, read-none, best-listed, decode-refused, decode-none, decode-done}
+use borrow.Author.Needs.{needs}
+use Rattle.receiver.proofs.decode.decode.Statement.{statement}
+use Rattle.receiver.proofs.decode.decode.Tie as tie
+
+decode-number-requires : tie.Need-decode-number-requires
+decode-number-requires c κs = search needs
+
+refused-requires : tie.Need-refused-requires
+refused-requires c κs = search needs
+
+returns : tie.Need-returns
+returns c = let a = c .before .before .before .before .args in decode-refused (a .samples .now) (a .s) (a .index) (c .before .before .decode-number .ensures) (c .before .if1 .taken) (c .refused .ensures)
+
+symbols-of-requires : tie.Need-symbols-of-requires
+symbols-of-requires c κs = let a = c .before .before .before .args in decode-taken (a .samples .now) (c .if1 .left) (a .s) (a .index) (c .before .decode-number .ensures) .0 .whole
+
+slice-aggregate-best-of : tie.Need-slice-aggregate-best-of
+slice-aggregate-best-of c = search needs
+
+best-of-requires : tie.Need-best-of-requires
+best-of-requires c κs = let a = c .before .before .before .before .before .args in let t = decode-taken (a .samples .now) (c .before .before .if1 .left) (a .s) (a .index) (c .before .before .before .decode-number .ensures) in (t .0 .whole, c .before .symbols-of .ensures, t .0 .level)
+
+refused-requires-2 : tie.Need-refused-requires-2
+refused-requires-2 c κs = search needs
+
+returns-2 : tie.Need-returns-2
+returns-2 c = let a = c .before .before .before .before .before .before .before .before .before .args in decode-none (a .samples .now) (a .s) (a .index) (c .before .before .before .before .before .before .before .decode-number .ensures) (c .before .before .before .before .before .before .if1 .left) (read-none _ (c .before .before .before .best-of .ensures) (c .before .if2 .taken)) (c .refused2 .ensures)
+
+slice-aggregate-time-in : tie.Need-slice-aggregate-time-in
+slice-aggregate-time-in c = search needs
+
+time-in-requires : tie.Need-time-in-requires
+time-in-requires c κs =
+    let a = c .before .before .before .before .before .before .before .before .before .before .before .before .args in
+    let t = decode-taken (a .samples .now) (c .before .before .before .before .before .before .before .before .before .if1 .left) (a .s) (a .index) (c .before .before .before .before .before .before .before .before .before .before .decode-number .ensures) in
+    (ap length (c .before .before .before .before .before .before .before .before .symbols-of .ensures) ∙ symbols-length (a .samples .now), best-listed _ _ (read-some _ (c .before .before .before .before .before .before .best-of .ensures) (c .before .before .before .before .if2 .left)), t .1, t .2)
+
+returns-3 : tie.Need-returns-3
+returns-3 c =
+    let a = c .before .before .before .before .before .before .before .before .before .before .before .before .before .args in
+    let b = c .before .before .before .before .before .before .before .best-of in
+    let f = b .result .candidate in
+    decode-done (a .samples .now) (a .s) (a .index) f (c .before .before .before .before .before .before .before .before .before .before .before .decode-number .ensures) (c .before .before .before .before .before .before .before .before .before .before .if1 .left) (read-some _ (b .ensures) (c .before .before .before .before .before .if2 .left))
+    (c .time-in .ensures ∙ ap (λ (x : List Float). timedIn x (f .place) (f .message) (a .index)) (c .before .before .before .before .before .before .before .before .before .symbols-of .ensures))
+
+pub decode-spec : {M : Type 1} → statement M
+decode-spec =
+    tie.close
+    (tie.spec
+    decode-number-requires
+    refused-requires
+    returns
+    symbols-of-requires
+    slice-aggregate-best-of
+    best-of-requires
+    refused-requires-2
+    returns-2
+    slice-aggregate-time-in
+    time-in-requires
+    returns-3)

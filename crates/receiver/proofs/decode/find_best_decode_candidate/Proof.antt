@@ -1,0 +1,39 @@
+-- `receiver::decode::find_best_decode_candidate` meets its contract.
+-- Assumes nothing.
+use Rattle.receiver.proofs.Deciding.{best-taken, best-refused, best-done}
+use borrow.Author.Needs.{needs}
+use Rattle.receiver.proofs.decode.find_best_decode_candidate.Statement.{statement}
+use Rattle.receiver.proofs.decode.find_best_decode_candidate.Tie as tie
+
+best-number-requires : tie.Need-best-number-requires
+best-number-requires c κs = search needs
+
+unread-requires : tie.Need-unread-requires
+unread-requires c κs = search needs
+
+returns : tie.Need-returns
+returns c = let a = c .before .before .before .before .args in best-refused (a .samples .now) (a .s) (c .before .before .best-number .ensures) (c .before .if1 .taken) (c .unread .ensures)
+
+symbols-of-requires : tie.Need-symbols-of-requires
+symbols-of-requires c κs = let a = c .before .before .before .args in best-taken (a .samples .now) (c .if1 .left) (a .s) (c .before .best-number .ensures) .whole
+
+slice-aggregate-best-of : tie.Need-slice-aggregate-best-of
+slice-aggregate-best-of c = search needs
+
+best-of-requires : tie.Need-best-of-requires
+best-of-requires c κs = let a = c .before .before .before .before .before .args in let t = best-taken (a .samples .now) (c .before .before .if1 .left) (a .s) (c .before .before .before .best-number .ensures) in (t .whole, c .before .symbols-of .ensures, t .level)
+
+returns-2 : tie.Need-returns-2
+returns-2 c = let a = c .before .before .before .before .before .before .args in best-done (a .samples .now) (a .s) (c .before .before .before .before .best-number .ensures) (c .before .before .before .if1 .left) (c .best-of .ensures)
+
+pub find-best-decode-candidate-spec : {M : Type 1} → statement M
+find-best-decode-candidate-spec =
+    tie.close
+    (tie.spec
+    best-number-requires
+    unread-requires
+    returns
+    symbols-of-requires
+    slice-aggregate-best-of
+    best-of-requires
+    returns-2)

@@ -1,0 +1,20 @@
+-- `receiver::decode::time_in` meets its contract: no more than two samples move.
+-- Assumes nothing.
+use Rattle.place.specs.Step.{sampleStart}
+use Rattle.receiver.specs.Inner.{seenIn}
+use Rattle.receiver.proofs.Deciding.{moves-few, timed-is}
+use borrow.Author.Needs.{needs}
+use Rattle.receiver.proofs.decode.time_in.Statement.{statement}
+use Rattle.receiver.proofs.decode.time_in.Tie as tie
+
+subsample-requires : tie.Need-subsample-requires
+subsample-requires c κs = search needs
+
+index-of-requires : tie.Need-index-of-requires
+index-of-requires c κs = let s = c .before .before in (s .pre .2, s .pre .3, s .pre .1, moves-few (seenIn (s .args .symbols .now)) (s .args .message) (sampleStart (s .args .place)) (c .subsample .ensures))
+
+returns : tie.Need-returns
+returns c = let s = c .before .before .before in timed-is (s .args .symbols .now) (s .args .place) (s .args .message) (s .args .index) (c .before .subsample .ensures) (c .index-of .ensures)
+
+pub time-in-spec : {M : Type 1} → statement M
+time-in-spec = tie.close (tie.spec subsample-requires index-of-requires returns)

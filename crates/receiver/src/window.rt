@@ -1,0 +1,55 @@
+// A window that is taken: its symbols and streams are made here, and lent to the search.
+use crate::find::find;
+use crate::find::read_at;
+use crate::rows::demodulate_rows;
+use crate::subsample::subsample;
+use kernels::symbols::accumulate_symbols;
+use place::Place;
+use search::Read;
+use search::Settings;
+use timing::Timing;
+ghost use mathlib.Core.Path.{_≡_};
+ghost use mathlib.Core.Bool.{true};
+ghost use Prim.Native.Nat.{_≤_};
+ghost use lib.ListN.{length};
+ghost use Rattle.kernels.specs.Symbols.{symbolsOf};
+ghost use Rattle.place.specs.Step.{sampleStart};
+ghost use Rattle.place.specs.All.{listed};
+ghost use Rattle.search.specs.Choice.{candidateAt, best};
+ghost use Rattle.search.specs.Kinds.{long};
+ghost use Rattle.search.specs.Seen.{windowOf};
+ghost use Rattle.search.specs.Timed.{timingAt};
+ghost use Rattle.search.specs.Answers.{readOf};
+ghost use Rattle.receiver.specs.Inner.{rowsOf, Ready};
+
+// The symbols of a window.
+pub fn symbols_of(samples: &[f32]) -> [f32; 2304]
+    requires { ⌜ length (now samples) ≡ 2310 ⌝ }
+    ensures { λ r. ⌜ r ≡ symbolsOf (now (samples .entry)) ⌝ }
+{
+    let mut symbols = [0.0f32; 2304];
+    accumulate_symbols(samples, &mut symbols);
+    symbols
+}
+
+// The best of all places.
+pub fn best_of(samples: &[f32], symbols: &[f32], s: Settings) -> Read
+    requires { ⌜ (length (now samples) ≡ 2310) × (now symbols ≡ symbolsOf (now samples)) × (s .level ≤ 2) ⌝ }
+    ensures { λ r. ⌜ r ≡ readOf (best long s (windowOf 14 (now (samples .entry)))) ⌝ }
+{
+    let mut coherent = [0u8; 144];
+    let mut noncoherent = [0u8; 144];
+    demodulate_rows(symbols, &mut coherent, &mut noncoherent);
+    find(samples, symbols, &coherent, &noncoherent, s)
+}
+
+// The surviving reading of one place.
+pub fn reading_at(samples: &[f32], symbols: &[f32], s: Settings, place: Place) -> Read
+    requires { ⌜ (length (now samples) ≡ 2310) × (now symbols ≡ symbolsOf (now samples)) × (listed 31 place ≡ true) × (s .level ≤ 2) ⌝ }
+    ensures { λ r. ⌜ r ≡ readOf (candidateAt long s (windowOf 14 (now (samples .entry))) place) ⌝ }
+{
+    let mut coherent = [0u8; 144];
+    let mut noncoherent = [0u8; 144];
+    demodulate_rows(symbols, &mut coherent, &mut noncoherent);
+    read_at(samples, symbols, &coherent, &noncoherent, s, place)
+}

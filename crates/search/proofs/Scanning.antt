@@ -205,7 +205,7 @@ survivor-limit f w p l (Pass r) = go (leb (count (r .repairs)) l) (dropped f (w 
     go false false e q = rw (limit-of w p r l, e)
 
 -- the search over all six trials
-pub whole : Kind → Settings → Window → Option Candidate
+unfoldable pub whole : Kind → Settings → Window → Option Candidate
 whole kind f w = scan (λ p. survivor f w p (reading kind 2 (w .bits Coherent p) (w .bits Noncoherent p))) none (kind .places)
 
 pub level-is : (kind : Kind) (f : Settings) (w : Window) → best kind f w ≡ atMost (min (f .level) (kind .most)) (whole kind f w)

@@ -3,6 +3,7 @@
 --     try-refused    any other is refused with its number
 --     try-done       a call that is taken answers the reading with the given remainders
 --     try-is         and, where these are the messages' own, the reading of the search
+--     tried-         what was tried, from the answer: it passed, failed, was not refused
 -- Assumes nothing.
 use mathlib.Core.Path.{_≡_, refl, sym, ap, _∙_}
 use mathlib.Core.Bool.{Bool, true, false, cond}
@@ -14,10 +15,12 @@ use lib.Dec.{eqb, leb}
 use lib.ListN.{length}
 use Rattle.annex10.specs.Remainder.{remainder}
 use Rattle.streams.specs.Streams.{messageAt}
+use Rattle.search.specs.declared.Reading.{Reading}
 use Rattle.search.specs.declared.Tried.{Tried}
+use Rattle.search.specs.declared.Tried.the-variants as T
 use Rattle.search.specs.Kinds.{long}
 use Rattle.search.specs.Trials.{reading}
-use Rattle.trials.specs.declared.six.TriedAt.the-variants.{Refused}
+use Rattle.trials.specs.declared.six.TriedAt.the-variants.{Pass, Fail, Refused}
 use Rattle.trials.specs.With.{readingWith}
 use Rattle.trials.specs.Tries.{tryNumber, triedOf, tryWith}
 use Rattle.trials.proofs.Turns.{reading-with}
@@ -64,3 +67,17 @@ module _ (level : ℕ) (coherent noncoherent : List ℕ) (bit : ℕ) where
     try-is a b l o p q =
         sym (try-done (record { size = a; other = b; level-low = l; low = o }) refl refl)
         ∙ ap (triedOf 0) (reading-with long level (messageAt coherent 14 bit) (messageAt noncoherent 14 bit) p q)
+
+-- ---- from the answer back
+
+pub tried-pass : (t : Tried) {r : Reading} → Pass r ≡ triedOf 0 t → t ≡ T.Pass r
+tried-pass (T.Pass s) {r} e = let q : s ≡ r = cc in ap T.Pass q
+tried-pass T.Fail e = let z : _≡_ {A = ℕ} 0 1 = cc in absurd (omega arith)
+
+pub tried-fail : (t : Tried) → Fail ≡ triedOf 0 t → t ≡ T.Fail
+tried-fail (T.Pass s) e = let z : _≡_ {A = ℕ} 0 1 = cc in absurd (omega arith)
+tried-fail T.Fail e = refl
+
+pub tried-taken : (t : Tried) {k : ℕ} → Refused k ≡ triedOf 0 t → ⊥
+tried-taken (T.Pass s) e = let z : _≡_ {A = ℕ} 0 1 = cc in omega arith
+tried-taken T.Fail e = let z : _≡_ {A = ℕ} 0 1 = cc in omega arith

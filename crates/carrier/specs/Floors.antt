@@ -1,0 +1,38 @@
+-- The power of a spectrum beside a bin: what `carrier_notched_power` answers.
+-- Assumes nothing.
+use mathlib.Core.List.{List}
+use mathlib.Core.Bool.{Bool, cond, _||_}
+use Prim.Native.Nat.{ℕ, zero, suc, _+_}
+use lib.Dec.{ltb}
+use lib.ListN.{length}
+use lib.Ieee.{Float, binary32, add}
+use Rattle.math.specs.Complex.{zeroF}
+use Rattle.carrier.specs.declared.notch.Floor.{Floor}
+use Rattle.carrier.specs.declared.notch.Floor.the-variants.{Is, Refused}
+use Rattle.carrier.specs.Refusals.{floorNumber}
+use Rattle.carrier.specs.Peaks.{binAt}
+
+-- bin j lies outside bin ± W
+unfoldable pub outside : ℕ → ℕ → ℕ → Bool
+outside bin w j = ltb (j + w) bin || ltb (bin + w) j
+
+-- those of the first n bins that lie outside bin ± W, ascending, summed in order from 0.0
+unfoldable pub floorTo : List Float → ℕ → ℕ → ℕ → Float
+floorTo s bin w zero = zeroF
+floorTo s bin w (suc n) =
+    cond (outside bin w n)
+    (add binary32 (floorTo s bin w n) (binAt s n))
+    (floorTo s bin w n)
+
+-- all bins outside bin ± W
+unfoldable pub floorOf : List Float → ℕ → ℕ → Float
+floorOf s bin w = floorTo s bin w (length s)
+
+-- a number and a value as an answer: the value with number 0, a refusal with any other
+abbrev pub floorAnswer : ℕ → Float → Floor
+floorAnswer zero p = Is p
+floorAnswer (suc n) p = Refused (suc n)
+
+-- what `carrier_notched_power` answers
+unfoldable pub floorAt : List Float → ℕ → ℕ → Floor
+floorAt s bin w = floorAnswer (floorNumber (length s) bin w) (floorOf s bin w)

@@ -1,0 +1,5 @@
+pub mod Bits
+pub mod Statements
+pub mod Calls
+pub mod Audited
+pub mod Slip

@@ -1,0 +1,1 @@
+// What the auditor gets: the statements stand in specs/, their proofs in proofs/; no code.

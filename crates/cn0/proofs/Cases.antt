@@ -1,4 +1,4 @@
--- Document 01's cases of the logarithm, and some of the density.
+-- The worked cases of the logarithm, and some of the density.
 -- Assumes nothing.
 use mathlib.Core.Path.{_≡_, refl}
 use mathlib.Core.Bool.{true, false}

@@ -1,4 +1,4 @@
--- Document 01's cases of steps, and how many places there are.
+-- The worked cases of steps, and how many places there are.
 -- Assumes nothing.
 use mathlib.Core.Path.{_≡_, refl, sym, ap, _∙_}
 use mathlib.Core.List.{List, [], _∷_, map}

@@ -1,4 +1,4 @@
--- Document 01's cases of timing. The timing is the value before 0.5 is taken from it.
+-- The worked cases of timing. The timing is the value before 0.5 is taken from it.
 -- Assumes nothing.
 use mathlib.Core.Path.{_≡_, refl}
 use mathlib.Core.Bool.{true, false}

@@ -1,7 +1,13 @@
-// A window that holds one message, read at two places: what the slicers make of it, and the remainder.
+// Two windows, read and decoded. The first holds one message without noise. In the second the slicers disagree at one place, so that
+// trial 4 clears the noncoherent bits, fails at their header, and trial 5 has to go back to the coherent bits.
+use annex10::Repairs;
 use kernels::slicers::demodulate;
 use kernels::symbols::accumulate_symbols;
 use libc::STDOUT_FILENO;
+use place::Slicer;
+use receiver::decode::decode;
+use search::Answer;
+use search::Settings;
 use streams::crc::Crc;
 use streams::crc::compute_crc;
 use streams::message::extract_message;
@@ -9,7 +15,7 @@ ghost use mathlib.Core.Path.{_≡_};
 ghost use Prim.Native.Nat.{_≤_, _<_};
 ghost use lib.ListN.{length};
 
-// The message that the window holds.
+// The message that the first window holds.
 const SENT: [u8; 14] = [0x88, 0x07, 0x76, 0xac, 0, 0, 0, 0, 0, 0, 0, 0, 0, 0];
 
 // Four samples of a pulse: re is 1.0.
@@ -100,8 +106,131 @@ fn read(samples: &[f32; 2310]) {
     show_places(&symbols);
 }
 
+// The bits that the two slicers are to read in the second window.
+const COHERENT: [u8; 14] = [0x88, 0x07, 0x76, 0xac, 0, 0, 0, 0, 0, 0, 0, 0, 0, 0x03];
+
+const NONCOHERENT: [u8; 14] = [0, 0, 0, 0, 0, 0, 0, 0, 0, 0, 0, 0, 0, 0x01];
+
+fn bit_of(message: &[u8; 14], j: usize) -> u8
+    requires { ⌜ j < 112 ⌝ }
+{
+    (message[j / 8] >> (7 - j % 8)) & 1
+}
+
+// Four samples of a greater power and no real part.
+fn turned_pulse(samples: &mut [f32; 2310], start: usize)
+    requires { ⌜ start < 1152 ⌝ }
+{
+    for m in 0..4 {
+        samples[2 * (start + m) + 1] = 2.0;
+    }
+}
+
+// Where the slicers are to differ the other half has the greater power.
+fn send_both(coherent: &[u8; 14], noncoherent: &[u8; 14], samples: &mut [f32; 2310]) {
+    for j in 0..112 {
+        let c = bit_of(coherent, j);
+        let n = bit_of(noncoherent, j);
+        let first = 128 + 8 * j;
+        let second = first + 4;
+        if c == 1 {
+            pulse(samples, first);
+        } else {
+            pulse(samples, second);
+        }
+        if c != n {
+            if n == 1 {
+                turned_pulse(samples, first);
+            } else {
+                turned_pulse(samples, second);
+            }
+        }
+    }
+}
+
+fn print_word(n: u64) {
+    io::write_all(STDOUT_FILENO, b" ");
+    io::print_decimal(STDOUT_FILENO, n);
+}
+
+fn wide(x: u8) -> u64 {
+    x as u64
+}
+
+fn print_repairs(repairs: Repairs) {
+    match repairs {
+        Repairs::None => {
+            io::write_all(STDOUT_FILENO, b" none");
+        }
+        Repairs::One(j) => print_word(wide(j)),
+        Repairs::Two(j, k) => {
+            print_word(wide(j));
+            print_word(wide(k));
+        }
+    }
+}
+
+fn print_slicer(slicer: Slicer) {
+    match slicer {
+        Slicer::Coherent => io::write_all(STDOUT_FILENO, b" coherent"),
+        Slicer::Noncoherent => io::write_all(STDOUT_FILENO, b" noncoherent"),
+    }
+    ;
+}
+
+// Whether it is above every finite number, and the fraction in halves.
+fn print_floats(cn0: f32, fraction: f32) {
+    if cn0 == 1.0 / 0.0 {
+        io::write_all(STDOUT_FILENO, b" cn0 infinite");
+    } else {
+        io::write_all(STDOUT_FILENO, b" cn0 finite");
+    }
+    if fraction == -0.5 {
+        io::write_all(STDOUT_FILENO, b" fraction -0.5");
+    } else {
+        io::write_all(STDOUT_FILENO, b" fraction other");
+    }
+}
+
+fn print_answer(a: Answer) {
+    io::write_all(STDOUT_FILENO, b"decoded");
+    print_word(a.number as u64);
+    let place = a.place;
+    print_word(place.bit as u64);
+    print_word(place.phase as u64);
+    print_word(place.symbol as u64);
+    io::write_all(STDOUT_FILENO, b" ");
+    let bytes = a.message;
+    print_bytes(bytes);
+    let repairs = a.repairs;
+    print_repairs(repairs);
+    let slicer = a.slicer;
+    print_slicer(slicer);
+    print_floats(a.cn0, a.fraction);
+    io::write_all(STDOUT_FILENO, b" index");
+    print_word(a.index);
+    io::write_all(STDOUT_FILENO, b"\n");
+}
+
+fn settings() -> Settings {
+    Settings {
+        level: 2,
+        threshold: 67.0,
+        second: 71.0,
+        distance: 8,
+    }
+}
+
+fn show_answer(samples: &[f32; 2310]) {
+    print_answer(decode(samples, settings(), 128));
+}
+
 fn main() {
     let mut samples = [0.0f32; 2310];
     send(&SENT, &mut samples);
     read(&samples);
+    show_answer(&samples);
+    let mut other = [0.0f32; 2310];
+    send_both(&COHERENT, &NONCOHERENT, &mut other);
+    show_answer(&other);
 }

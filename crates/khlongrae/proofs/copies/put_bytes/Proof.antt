@@ -1,0 +1,55 @@
+-- `khlongrae::copies::put_bytes` meets its contract. The loop: the first i elements are copied. Assumes nothing.
+use Prim.Native.Nat.{ℕ, _-_, _≤_}
+use lib.ListN.{getD}
+use Rattle.lists.proofs.Table.{Done, done-none, done-more}
+use native.Mathlib.Omega.{arith}
+use borrow.Author.Needs.{needs}
+use mathlib.Core.Path.{refl}
+use Rattle.khlongrae.proofs.Copied.{copied}
+use Rattle.khlongrae.proofs.copies.put_bytes.Statement.{statement}
+use Rattle.khlongrae.proofs.copies.put_bytes.Tie as tie
+
+abbrev Inv-loop : tie.InvT-loop
+Inv-loop to₀ from i₀ to i = (i ≤ 14) × Done 0 (λ (k : ℕ). getD from k 0) 14 to i
+
+abbrev μ-loop : tie.MeasureT-loop
+μ-loop to₀ from i₀ to i = 14 - i
+
+loop-holds : tie.Need-loop-holds Inv-loop μ-loop
+loop-holds c = (search needs, done-none _ _ _ _ (c .pre))
+
+array-read-to : tie.Need-array-read-to Inv-loop μ-loop
+array-read-to c = search needs
+
+slice-write-to : tie.Need-slice-write-to Inv-loop μ-loop
+slice-write-to c = search needs
+
+add-i : tie.Need-add-i Inv-loop μ-loop
+add-i c = search needs
+
+loop-less : tie.Need-loop-less Inv-loop μ-loop
+loop-less c = search needs
+
+loop-again : tie.Need-loop-again Inv-loop μ-loop
+loop-again c = (search needs, done-more _ _ _ _ _ _ (omega arith) (c .before .loop .inv .1) refl)
+
+same-length : tie.Need-same-length Inv-loop μ-loop
+same-length c = search needs
+
+returns : tie.Need-returns Inv-loop μ-loop
+returns c = copied _ _ _ _ _ (search needs) (omega arith) (c .before .loop .inv .1)
+
+pub put-bytes-spec : {M : Type 1} → statement M
+put-bytes-spec =
+    tie.close
+    (tie.spec
+    Inv-loop
+    μ-loop
+    loop-holds
+    array-read-to
+    slice-write-to
+    add-i
+    loop-less
+    loop-again
+    same-length
+    returns)

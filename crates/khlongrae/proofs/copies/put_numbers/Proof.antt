@@ -1,0 +1,64 @@
+-- `khlongrae::copies::put_numbers` meets its contract. The loop: the first i elements are copied. Assumes nothing.
+use Prim.Native.Nat.{ℕ, _-_, _≤_}
+use lib.ListN.{getD}
+use lib.Ieee.{nan}
+use Rattle.lists.proofs.Table.{Done, done-none, done-more}
+use native.Mathlib.Omega.{arith}
+use borrow.Author.Needs.{needs}
+use mathlib.Core.Path.{refl}
+use Rattle.khlongrae.proofs.Copied.{copied}
+use Rattle.khlongrae.proofs.copies.put_numbers.Statement.{statement}
+use Rattle.khlongrae.proofs.copies.put_numbers.Tie as tie
+
+abbrev Inv-loop : tie.InvT-loop
+Inv-loop to₀ from i₀ to i = (i ≤ 2) × Done nan (λ (k : ℕ). getD from k nan) 2 to i
+
+abbrev μ-loop : tie.MeasureT-loop
+μ-loop to₀ from i₀ to i = 2 - i
+
+loop-holds : tie.Need-loop-holds Inv-loop μ-loop
+loop-holds c = (search needs, done-none _ _ _ _ (c .pre))
+
+mul-to : tie.Need-mul-to Inv-loop μ-loop
+mul-to c = search needs
+
+array-read-to : tie.Need-array-read-to Inv-loop μ-loop
+array-read-to c = search needs
+
+mul-to-2 : tie.Need-mul-to-2 Inv-loop μ-loop
+mul-to-2 c = search needs
+
+slice-write-to : tie.Need-slice-write-to Inv-loop μ-loop
+slice-write-to c = search needs
+
+add-i : tie.Need-add-i Inv-loop μ-loop
+add-i c = search needs
+
+loop-less : tie.Need-loop-less Inv-loop μ-loop
+loop-less c = search needs
+
+loop-again : tie.Need-loop-again Inv-loop μ-loop
+loop-again c = (search needs, done-more _ _ _ _ _ _ (omega arith) (c .before .loop .inv .1) refl)
+
+same-length : tie.Need-same-length Inv-loop μ-loop
+same-length c = search needs
+
+returns : tie.Need-returns Inv-loop μ-loop
+returns c = copied _ _ _ _ _ (search needs) (omega arith) (c .before .loop .inv .1)
+
+pub put-numbers-spec : {M : Type 1} → statement M
+put-numbers-spec =
+    tie.close
+    (tie.spec
+    Inv-loop
+    μ-loop
+    loop-holds
+    mul-to
+    array-read-to
+    mul-to-2
+    slice-write-to
+    add-i
+    loop-less
+    loop-again
+    same-length
+    returns)

@@ -1,0 +1,30 @@
+// A row copied to lent memory of its length.
+ghost use mathlib.Core.Path.{_≡_};
+ghost use lib.ListN.{length};
+
+pub fn put_bytes(from: [u8; 14], to: &mut [u8])
+    requires { ⌜ length (now to) ≡ 14 ⌝ }
+    ensures { λ _. ⌜ now (to .exit) ≡ from ⌝ }
+{
+    for i in 0..14 {
+        to[i] = from[i];
+    }
+}
+
+pub fn put_words(from: [u64; 8], to: &mut [u64])
+    requires { ⌜ length (now to) ≡ 8 ⌝ }
+    ensures { λ _. ⌜ now (to .exit) ≡ from ⌝ }
+{
+    for i in 0..8 {
+        to[i] = from[i];
+    }
+}
+
+pub fn put_numbers(from: [f32; 2], to: &mut [f32])
+    requires { ⌜ length (now to) ≡ 2 ⌝ }
+    ensures { λ _. ⌜ now (to .exit) ≡ from ⌝ }
+{
+    for i in 0..2 {
+        to[i] = from[i];
+    }
+}

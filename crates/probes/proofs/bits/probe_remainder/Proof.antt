@@ -1,0 +1,33 @@
+-- `probes::bits::probe_remainder` meets its contract, by cases of the answer. Assumes nothing.
+use mathlib.Core.Path.{sym, ap, _∙_}
+use Rattle.probes.specs.Flat.{flatCrc}
+use borrow.Author.Needs.{needs}
+use Rattle.probes.proofs.bits.probe_remainder.Statement.{statement}
+use Rattle.probes.proofs.bits.probe_remainder.Tie as tie
+use Rattle.probes.proofs.bits.probe_remainder.Reads as reads
+use Rattle.probes.proofs.bits.probe_remainder.Lts as lts
+use Rattle.streams.proofs.crc.compute_crc.Reads as compute-crc-reads
+
+-- src/bits.rt:26:11
+compute-crc-requires : tie.Need-compute-crc-requires
+compute-crc-requires c κs = search needs
+
+-- src/bits.rt:27:17
+enum-known-value : tie.Need-enum-known-value
+enum-known-value c = search needs
+
+-- src/bits.rt:28:22
+enum-known-number : tie.Need-enum-known-number
+enum-known-number c = search needs
+
+-- src/bits.rt:22:1
+returns : tie.Need-returns
+returns c = ap flatCrc (sym (c .before .value .given .1) ∙ c .before .before .before .compute-crc .ensures)
+
+-- src/bits.rt:22:1
+returns-2 : tie.Need-returns-2
+returns-2 c = ap flatCrc (sym (c .before .number .given .1) ∙ c .before .before .before .compute-crc .ensures)
+
+pub probe-remainder-spec : {M : Type 1} → statement M
+probe-remainder-spec =
+    tie.close (tie.spec compute-crc-requires enum-known-value enum-known-number returns returns-2)

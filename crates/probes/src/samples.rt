@@ -1,0 +1,70 @@
+// From samples to symbols, streams and powers.
+use kernels::power::Power;
+use kernels::power::postdecode_noise_power;
+use kernels::power::postdecode_power;
+use kernels::slicers::demodulate;
+use kernels::symbols::accumulate_symbols;
+ghost use mathlib.Core.Path.{_≡_};
+ghost use Rattle.kernels.specs.Symbols.{accumulated};
+ghost use Rattle.kernels.specs.Slices.{demodulated};
+ghost use Rattle.kernels.specs.Powers.{powerAt, noiseAt};
+ghost use Rattle.cn0.specs.Estimate.{cn0Of};
+ghost use Rattle.math.specs.Parabola.{parabola};
+ghost use Rattle.probes.specs.Flat.{flatPower};
+
+#[repr(C)]
+pub struct FlatPower {
+    pub number: u32,
+    pub power: f32,
+}
+
+#[no_mangle]
+pub extern "C" fn probe_symbols(samples: &[f32], symbols: &mut [f32]) -> u32
+    ensures { λ r. ⌜ (r, now (symbols .exit)) ≡ accumulated (now (samples .entry)) (now (symbols .entry)) ⌝ }
+{
+    accumulate_symbols(samples, symbols)
+}
+
+#[no_mangle]
+pub extern "C" fn probe_streams(row: &[f32], coherent: &mut [u8], noncoherent: &mut [u8]) -> u32
+    ensures { λ r. ⌜ (r, now (coherent .exit), now (noncoherent .exit)) ≡ demodulated (now (row .entry)) (now (coherent .entry)) (now (noncoherent .entry)) ⌝ }
+{
+    demodulate(row, coherent, noncoherent)
+}
+
+fn flat(power: Power) -> FlatPower
+    ensures { λ r. ⌜ r ≡ flatPower power ⌝ }
+{
+    match power {
+        Power::Is(power) => FlatPower { number: 0, power },
+        Power::Refused(number) => FlatPower { number, power: 0.0 },
+    }
+}
+
+#[no_mangle]
+pub extern "C" fn probe_power(symbols: &[f32], message: &[u8]) -> FlatPower
+    ensures { λ r. ⌜ r ≡ flatPower (powerAt (now (symbols .entry)) (now (message .entry))) ⌝ }
+{
+    flat(postdecode_power(symbols, message))
+}
+
+#[no_mangle]
+pub extern "C" fn probe_noise_power(samples: &[f32], message: &[u8]) -> FlatPower
+    ensures { λ r. ⌜ r ≡ flatPower (noiseAt (now (samples .entry)) (now (message .entry))) ⌝ }
+{
+    flat(postdecode_noise_power(samples, message))
+}
+
+#[no_mangle]
+pub extern "C" fn probe_cn0(prompt: f32, noise: f32) -> f32
+    ensures { λ r. ⌜ r ≡ cn0Of «prompt» «noise» ⌝ }
+{
+    cn0::estimate_cn0(prompt, noise)
+}
+
+#[no_mangle]
+pub extern "C" fn probe_parabola(early: f32, prompt: f32, late: f32) -> f32
+    ensures { λ r. ⌜ r ≡ parabola early prompt late ⌝ }
+{
+    math::parabolic_interpolation(early, prompt, late)
+}

@@ -29,11 +29,12 @@ returns-3 c = simp (eq-eqb _ _ (c .before .before .if1 .left), eq-eqb _ _ (c .be
 returns-4 : tie.Need-returns-4
 unfolding decodeInto
 returns-4 c =
-    simp
-    (eq-eqb _ _ (c .before .before .before .if1 .left),
-    eq-eqb _ _ (c .before .before .if2 .left),
-    eq-eqb _ _ (c .before .if3 .left),
-    ne-eqb _ _ (c .if4 .taken))
+    simp (
+      eq-eqb _ _ (c .before .before .before .if1 .left),
+      eq-eqb _ _ (c .before .before .if2 .left),
+      eq-eqb _ _ (c .before .if3 .left),
+      ne-eqb _ _ (c .if4 .taken),
+    )
 
 -- src/lib.rt:41:9
 decode-requires : tie.Need-decode-requires

@@ -1,0 +1,51 @@
+-- The lines of a listing.
+-- Assumes nothing.
+use mathlib.Core.Bool.{cond}
+use mathlib.Core.List.{List, [], _∷_, _++_}
+use Prim.Native.Nat.{ℕ, _-_}
+use lib.Dec.{eqb}
+use lib.ListN.{length, replicate}
+use Rattle.mode_s.specs.Avr.{avrText}
+use Rattle.search.specs.declared.Answer.{Answer}
+use Rattle.listing.specs.declared.Text.{Text}
+use Rattle.listing.specs.Fields.{decimal, floatText, addressText, repairsText, slicerText}
+
+-- fields with a space between two, and a line feed at the end
+unfoldable pub line : List (List ℕ) → List ℕ
+line [] = 0x0A ∷ []
+line (f ∷ []) = f ++ (0x0A ∷ [])
+line (f ∷ g ∷ fs) = f ++ (0x20 ∷ line (g ∷ fs))
+
+-- `windows N`
+unfoldable pub headLine : ℕ → List ℕ
+headLine n = line ((0x77 ∷ 0x69 ∷ 0x6E ∷ 0x64 ∷ 0x6F ∷ 0x77 ∷ 0x73 ∷ []) ∷ decimal n ∷ [])
+
+-- `refused N`
+unfoldable pub refusedLine : ℕ → List ℕ
+refusedLine number = line ((0x72 ∷ 0x65 ∷ 0x66 ∷ 0x75 ∷ 0x73 ∷ 0x65 ∷ 0x64 ∷ []) ∷ decimal number ∷ [])
+
+-- `N none`
+unfoldable pub noneLine : ℕ → List ℕ
+noneLine window = line (decimal window ∷ (0x6E ∷ 0x6F ∷ 0x6E ∷ 0x65 ∷ []) ∷ [])
+
+-- window, sample index, fraction, AVR text, address, repairs, slicer, cn0
+unfoldable pub foundLine : ℕ → Answer → List ℕ
+foundLine window a =
+    line
+    (decimal window
+    ∷ decimal (a .index)
+    ∷ floatText (a .fraction)
+    ∷ avrText (a .message)
+    ∷ addressText (a .message)
+    ∷ repairsText (a .repairs)
+    ∷ slicerText (a .slicer)
+    ∷ floatText (a .cn0)
+    ∷ [])
+
+-- what is said of a window: number 0 is a message, 1 is none, any other a refusal
+unfoldable pub windowLine : ℕ → Answer → List ℕ
+windowLine window a = cond (eqb (a .number) 0) (foundLine window a) (cond (eqb (a .number) 1) (noneLine window) (refusedLine (a .number)))
+
+-- a line and its length, with zeros behind it
+unfoldable pub textOf : List ℕ → Text
+textOf bytes = record { length = length bytes; bytes = bytes ++ replicate (160 - length bytes) 0 }

@@ -1,0 +1,70 @@
+// The fields that are more than a number.
+use crate::Text;
+use crate::put::put;
+use crate::put::put_all;
+use crate::put::put_decimal;
+use crate::put::put_hex;
+use crate::put::put_word;
+use annex10::Repairs;
+use mode_s::avr::format_avr;
+use place::Slicer;
+use words::float::bits_of;
+ghost use mathlib.Core.Path.{_≡_};
+ghost use lib.ListN.{length};
+ghost use Rattle.mode_s.specs.Avr.{avrText};
+ghost use Rattle.listing.specs.Fields.{decimal, floatText, addressText, repairsText, slicerText};
+ghost use Rattle.listing.specs.Inner.{puts};
+
+// The bits of a float.
+pub fn put_float(t: Text, x: f32) -> Text
+    ensures { λ r. ⌜ r ≡ puts t (floatText x) ⌝ }
+{
+    put_word(t, bits_of(x))
+}
+
+fn put_line(t: Text, line: &[u8; 30]) -> Text
+    ensures { λ r. ⌜ r ≡ puts t (now (line .entry)) ⌝ }
+{
+    put_all(t, line)
+}
+
+pub fn put_avr(t: Text, message: [u8; 14]) -> Text
+    ensures { λ r. ⌜ (r ≡ puts t (avrText message)) × (length message ≡ 14) ⌝ }
+{
+    let mut line = [0u8; 30];
+    format_avr(&message, &mut line);
+    put_line(t, &line)
+}
+
+// Bytes 1 to 3.
+pub fn put_address(t: Text, message: [u8; 14]) -> Text
+    ensures { λ r. ⌜ r ≡ puts t (addressText message) ⌝ }
+{
+    put_hex(put_hex(put_hex(t, message[1]), message[2]), message[3])
+}
+
+fn put_position(t: Text, j: u8) -> Text
+    ensures { λ r. ⌜ r ≡ puts t (decimal j) ⌝ }
+{
+    put_decimal(t, j as u64)
+}
+
+// How many, and where.
+pub fn put_repairs(t: Text, repairs: Repairs) -> Text
+    ensures { λ r. ⌜ r ≡ puts t (repairsText repairs) ⌝ }
+{
+    match repairs {
+        Repairs::None => put(t, b'0'),
+        Repairs::One(j) => put_position(put_all(t, b"1:"), j),
+        Repairs::Two(j, k) => put_position(put(put_position(put_all(t, b"2:"), j), b','), k),
+    }
+}
+
+pub fn put_slicer(t: Text, slicer: Slicer) -> Text
+    ensures { λ r. ⌜ r ≡ puts t (slicerText slicer) ⌝ }
+{
+    match slicer {
+        Slicer::Coherent => put(t, b'C'),
+        Slicer::Noncoherent => put(t, b'N'),
+    }
+}

@@ -1,0 +1,10 @@
+// The lines of a listing, as bytes.
+mod fields;
+pub mod lines;
+mod put;
+
+// A line. Of the bytes only the first `length` count; the others are zeros.
+pub struct Text {
+    pub length: usize,
+    pub bytes: [u8; 160],
+}

@@ -1,9 +1,9 @@
 -- No line is longer than its text.
 -- Assumes nothing.
-use mathlib.Core.Path.{_≡_, refl, ap, _∙_}
+use mathlib.Core.Path.{_≡_, refl}
 use mathlib.Core.Bool.{Bool, true, false, cond}
 use mathlib.Core.List.{List, [], _∷_, _++_}
-use Prim.Native.Nat.{ℕ, zero, suc, _+_, _*_, _/_, _%_, _≤_}
+use Prim.Native.Nat.{ℕ, zero, suc, _+_, _/_, _%_, _≤_}
 use native.Mathlib.Omega.{arith}
 use lib.Dec.{ltb}
 use lib.ListN.{length, length-append}
@@ -12,7 +12,7 @@ use Rattle.annex10.specs.declared.Repairs.{Repairs}
 use Rattle.annex10.specs.declared.Repairs.the-variants.{None, One, Two}
 use Rattle.place.specs.declared.Slicer.{Slicer}
 use Rattle.place.specs.declared.Slicer.the-variants.{Coherent, Noncoherent}
-use Rattle.mode_s.specs.Avr.{avrText, hexText}
+use Rattle.mode_s.specs.Avr.{hexText}
 use Rattle.mode_s.proofs.Text.{length-avr}
 use Rattle.search.specs.declared.Answer.{Answer}
 use Rattle.listing.specs.Fields.{decimalIn, decimal, hexWord, floatText, addressText, repairsText, slicerText}
@@ -67,8 +67,7 @@ pub found-short : (window : ℕ) (a : Answer) → length (a .message) ≡ 14 →
 unfolding foundLine line
 found-short window a h =
     simp length-append
-    (omega
-    (
+    (omega (
       arith,
       decimal-short window,
       decimal-short (a .index),

@@ -50,7 +50,7 @@ put-more xs b h =
 
     room : (m n : ℕ) → m ≡ suc n
         → _≡_ {A = Text} (record { length = length xs + 1; bytes = set (xs ++ replicate m 0) (length xs) b })
-            (record { length = length (xs ++ (b ∷ [])); bytes = (xs ++ (b ∷ [])) ++ replicate n 0 })
+        (record { length = length (xs ++ (b ∷ [])); bytes = (xs ++ (b ∷ [])) ++ replicate n 0 })
     room m n e = rw (stored m n e, length-append xs (b ∷ []))
 
 puts-text : (xs ys : List ℕ) → length xs + length ys ≤ 160 → puts (textOf xs) ys ≡ textOf (xs ++ ys)

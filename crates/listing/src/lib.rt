@@ -1,5 +1,6 @@
 // The lines of a listing, as bytes.
 mod fields;
+pub mod lent;
 pub mod lines;
 mod put;
 

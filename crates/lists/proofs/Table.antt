@@ -61,6 +61,11 @@ module _ {A : Type 0} where
   pub done-all : (d : A) (f : ℕ → A) (n : ℕ) (xs : List A) (i : ℕ) → n ≤ i → Done d f n xs i → xs ≡ tabulate n f
   done-all d f n xs i le r = tabulate-is d f n xs (r .size) (λ k h. r .each k (lt-of-lt-of-le h le))
 
+  -- a loop that copies a list element by element ends with that list
+  pub copied : (d : A) (from to : List A) (n i : ℕ) → length from ≡ n → n ≤ i → Done d (λ (k : ℕ). getD from k d) n to i → to ≡ from
+  copied d from to n i e le r =
+      done-all d (λ (k : ℕ). getD from k d) n to i le r ∙ sym (tabulate-is d (λ (k : ℕ). getD from k d) n from e (λ k h. refl))
+
   -- The elements of xs that P marks are those of f.
   pub record Where (d : A) (f : ℕ → A) (n : ℕ) (xs : List A) (P : ℕ → Type 0) : Type 0 where
     pub size : length xs ≡ n

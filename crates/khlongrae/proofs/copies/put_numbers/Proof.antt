@@ -2,11 +2,10 @@
 use Prim.Native.Nat.{ℕ, _-_, _≤_}
 use lib.ListN.{getD}
 use lib.Ieee.{nan}
-use Rattle.lists.proofs.Table.{Done, done-none, done-more}
+use Rattle.lists.proofs.Table.{Done, done-none, done-more, copied}
 use native.Mathlib.Omega.{arith}
 use borrow.Author.Needs.{needs}
 use mathlib.Core.Path.{refl}
-use Rattle.khlongrae.proofs.Copied.{copied}
 use Rattle.khlongrae.proofs.copies.put_numbers.Statement.{statement}
 use Rattle.khlongrae.proofs.copies.put_numbers.Tie as tie
 

@@ -1,11 +1,10 @@
 -- `khlongrae::copies::put_words` meets its contract. The loop: the first i elements are copied. Assumes nothing.
 use Prim.Native.Nat.{ℕ, _-_, _≤_}
 use lib.ListN.{getD}
-use Rattle.lists.proofs.Table.{Done, done-none, done-more}
+use Rattle.lists.proofs.Table.{Done, done-none, done-more, copied}
 use native.Mathlib.Omega.{arith}
 use borrow.Author.Needs.{needs}
 use mathlib.Core.Path.{refl}
-use Rattle.khlongrae.proofs.Copied.{copied}
 use Rattle.khlongrae.proofs.copies.put_words.Statement.{statement}
 use Rattle.khlongrae.proofs.copies.put_words.Tie as tie
 

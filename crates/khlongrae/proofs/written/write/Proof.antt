@@ -6,52 +6,35 @@ use Rattle.khlongrae.proofs.Into.{written-all}
 use borrow.Author.Needs.{needs}
 use Rattle.khlongrae.proofs.written.write.Statement.{statement}
 use Rattle.khlongrae.proofs.written.write.Tie as tie
-use Rattle.khlongrae.proofs.written.write.Reads as reads
-use Rattle.khlongrae.proofs.written.write.Lts as lts
-use Rattle.khlongrae.proofs.copies.put_bytes.Reads as put-bytes-reads
-use Rattle.khlongrae.proofs.copies.put_numbers.Reads as put-numbers-reads
-use Rattle.khlongrae.proofs.copies.put_words.Reads as put-words-reads
-use Rattle.khlongrae.proofs.flat.numbers_of.Reads as numbers-of-reads
-use Rattle.khlongrae.proofs.flat.words_of.Reads as words-of-reads
 
--- src/written.rt:19:9
 returns : tie.Need-returns
 unfolding written
 returns c = simp (ne-eqb _ _ (c .if1 .taken))
 
--- src/written.rt:22:5
 put-bytes-requires : tie.Need-put-bytes-requires
 put-bytes-requires c κs = search needs
 
--- src/written.rt:23:15
 words-of-requires : tie.Need-words-of-requires
 words-of-requires c κs = search needs
 
--- src/written.rt:23:5
 put-words-requires : tie.Need-put-words-requires
 put-words-requires c κs = search needs
 
--- src/written.rt:24:17
 numbers-of-requires : tie.Need-numbers-of-requires
 numbers-of-requires c κs = search needs
 
--- src/written.rt:24:5
 put-numbers-requires : tie.Need-put-numbers-requires
 put-numbers-requires c κs = search needs
 
--- src/written.rt:13:1
 same-length : tie.Need-same-length
 same-length c = search needs
 
--- src/written.rt:13:1
 same-length-2 : tie.Need-same-length-2
 same-length-2 c = search needs
 
--- src/written.rt:13:1
 same-length-3 : tie.Need-same-length-3
 same-length-3 c = search needs
 
--- src/written.rt:13:1
 returns-2 : tie.Need-returns-2
 returns-2 c =
     let words = c .before .before .before .before .before .before .before in

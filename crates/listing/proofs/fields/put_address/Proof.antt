@@ -5,35 +5,25 @@ use Rattle.listing.proofs.Digits.{hex-more}
 use borrow.Author.Needs.{needs}
 use Rattle.listing.proofs.fields.put_address.Statement.{statement}
 use Rattle.listing.proofs.fields.put_address.Tie as tie
-use Rattle.listing.proofs.fields.put_address.Reads as reads
-use Rattle.listing.proofs.fields.put_address.Lts as lts
-use Rattle.listing.proofs.put.put_hex.Reads as put-hex-reads
 
--- src/fields.rt:33:32
 array-read-put-hex : tie.Need-array-read-put-hex
 array-read-put-hex c = search needs
 
--- src/fields.rt:33:21
 put-hex-requires : tie.Need-put-hex-requires
 put-hex-requires c κs = search needs
 
--- src/fields.rt:33:45
 array-read-put-hex-2 : tie.Need-array-read-put-hex-2
 array-read-put-hex-2 c = search needs
 
--- src/fields.rt:33:13
 put-hex-requires-2 : tie.Need-put-hex-requires-2
 put-hex-requires-2 c κs = search needs
 
--- src/fields.rt:33:58
 array-read-put-hex-3 : tie.Need-array-read-put-hex-3
 array-read-put-hex-3 c = search needs
 
--- src/fields.rt:33:5
 put-hex-requires-3 : tie.Need-put-hex-requires-3
 put-hex-requires-3 c κs = search needs
 
--- src/fields.rt:30:1
 returns : tie.Need-returns
 unfolding addressText
 returns c = hex-more _ _ _ (c .before .before .put-hex .ensures) (hex-more _ _ _ (c .before .put-hex2 .ensures) (c .put-hex3 .ensures))

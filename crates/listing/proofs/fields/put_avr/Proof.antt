@@ -6,28 +6,19 @@ use Rattle.listing.proofs.Avr.{avr-done}
 use borrow.Author.Needs.{needs}
 use Rattle.listing.proofs.fields.put_avr.Statement.{statement}
 use Rattle.listing.proofs.fields.put_avr.Tie as tie
-use Rattle.listing.proofs.fields.put_avr.Reads as reads
-use Rattle.listing.proofs.fields.put_avr.Lts as lts
-use Rattle.listing.proofs.fields.put_line.Reads as put-line-reads
-use Rattle.mode_s.proofs.avr.format_avr.Reads as format-avr-reads
 
--- src/fields.rt:25:16
 slice-aggregate-format-avr : tie.Need-slice-aggregate-format-avr
 slice-aggregate-format-avr c = search needs
 
--- src/fields.rt:25:26
 slice-aggregate-format-avr-2 : tie.Need-slice-aggregate-format-avr-2
 slice-aggregate-format-avr-2 c = search needs
 
--- src/fields.rt:25:5
 format-avr-requires : tie.Need-format-avr-requires
 format-avr-requires c κs = search needs
 
--- src/fields.rt:26:5
 put-line-requires : tie.Need-put-line-requires
 put-line-requires c κs = search needs
 
--- src/fields.rt:21:1
 returns : tie.Need-returns
 returns c = (c .put-line .ensures ∙ ap (puts _) (avr-done _ _ (search needs) (search needs) (c .before .before .before .format-avr .ensures)), search needs)
 

@@ -5,71 +5,51 @@ use Rattle.listing.proofs.Puts.{puts-one, puts-cons, puts-both}
 use borrow.Author.Needs.{needs}
 use Rattle.listing.proofs.fields.put_repairs.Statement.{statement}
 use Rattle.listing.proofs.fields.put_repairs.Tie as tie
-use Rattle.listing.proofs.fields.put_repairs.Reads as reads
-use Rattle.listing.proofs.fields.put_repairs.Lts as lts
-use Rattle.listing.proofs.fields.put_position.Reads as put-position-reads
-use Rattle.listing.proofs.put.put.Reads as put-reads
-use Rattle.listing.proofs.put.put_all.Reads as put-all-reads
 
--- src/fields.rt:47:26
 enum-told : tie.Need-enum-told
 enum-told c = search needs
 
--- src/fields.rt:47:26
 put-requires : tie.Need-put-requires
 put-requires c κs = search needs
 
--- src/fields.rt:48:22
 enum-known-repairs : tie.Need-enum-known-repairs
 enum-known-repairs c = search needs
 
--- src/fields.rt:48:52
 slice-aggregate-put-all : tie.Need-slice-aggregate-put-all
 slice-aggregate-put-all c = search needs
 
--- src/fields.rt:48:41
 put-all-requires : tie.Need-put-all-requires
 put-all-requires c κs = search needs
 
--- src/fields.rt:48:28
 put-position-requires : tie.Need-put-position-requires
 put-position-requires c κs = search needs
 
--- src/fields.rt:49:22
 enum-known-repairs-2 : tie.Need-enum-known-repairs-2
 enum-known-repairs-2 c = search needs
 
--- src/fields.rt:49:72
 slice-aggregate-put-all-2 : tie.Need-slice-aggregate-put-all-2
 slice-aggregate-put-all-2 c = search needs
 
--- src/fields.rt:49:61
 put-all-requires-2 : tie.Need-put-all-requires-2
 put-all-requires-2 c κs = search needs
 
--- src/fields.rt:49:48
 put-position-requires-2 : tie.Need-put-position-requires-2
 put-position-requires-2 c κs = search needs
 
--- src/fields.rt:49:44
 put-requires-2 : tie.Need-put-requires-2
 put-requires-2 c κs = search needs
 
--- src/fields.rt:49:31
 put-position-requires-3 : tie.Need-put-position-requires-3
 put-position-requires-3 c κs = search needs
 
--- src/fields.rt:43:1
 returns : tie.Need-returns
 unfolding repairsText
 returns c = rw (c .before .enum-told .given .1) (puts-one _ _ (c .put .ensures))
 
--- src/fields.rt:43:1
 returns-2 : tie.Need-returns-2
 unfolding repairsText
 returns-2 c = rw (c .before .before .before .before .repairs .given .1) (puts-both _ _ _ (c .before .put-all .ensures) (c .put-position .ensures))
 
--- src/fields.rt:43:1
 returns-3 : tie.Need-returns-3
 unfolding repairsText
 returns-3 c = rw (c .before .before .before .before .before .before .repairs2 .given .1) (puts-both _ _ _ (c .before .before .before .put-all2 .ensures) (puts-both _ _ _ (c .before .before .put-position2 .ensures) (puts-cons _ _ _ (c .before .put2 .ensures) (c .put-position3 .ensures))))

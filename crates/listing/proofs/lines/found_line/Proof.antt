@@ -6,86 +6,58 @@ use Rattle.listing.proofs.Lengths.{found-short}
 use borrow.Author.Needs.{needs}
 use Rattle.listing.proofs.lines.found_line.Statement.{statement}
 use Rattle.listing.proofs.lines.found_line.Tie as tie
-use Rattle.listing.proofs.lines.found_line.Reads as reads
-use Rattle.listing.proofs.lines.found_line.Lts as lts
-use Rattle.listing.proofs.fields.put_address.Reads as put-address-reads
-use Rattle.listing.proofs.fields.put_avr.Reads as put-avr-reads
-use Rattle.listing.proofs.fields.put_float.Reads as put-float-reads
-use Rattle.listing.proofs.fields.put_repairs.Reads as put-repairs-reads
-use Rattle.listing.proofs.fields.put_slicer.Reads as put-slicer-reads
-use Rattle.listing.proofs.put.empty.Reads as empty-reads
-use Rattle.listing.proofs.put.put.Reads as put-reads
-use Rattle.listing.proofs.put.put_decimal.Reads as put-decimal-reads
 
--- src/lines.rt:45:29
 empty-requires : tie.Need-empty-requires
 empty-requires c κs = search needs
 
--- src/lines.rt:45:17
 put-decimal-requires : tie.Need-put-decimal-requires
 put-decimal-requires c κs = search needs
 
--- src/lines.rt:45:9
 put-requires : tie.Need-put-requires
 put-requires c κs = search needs
 
--- src/lines.rt:46:17
 put-decimal-requires-2 : tie.Need-put-decimal-requires-2
 put-decimal-requires-2 c κs = search needs
 
--- src/lines.rt:46:9
 put-requires-2 : tie.Need-put-requires-2
 put-requires-2 c κs = search needs
 
--- src/lines.rt:47:17
 put-float-requires : tie.Need-put-float-requires
 put-float-requires c κs = search needs
 
--- src/lines.rt:47:9
 put-requires-3 : tie.Need-put-requires-3
 put-requires-3 c κs = search needs
 
--- src/lines.rt:48:17
 put-avr-requires : tie.Need-put-avr-requires
 put-avr-requires c κs = search needs
 
--- src/lines.rt:48:9
 put-requires-4 : tie.Need-put-requires-4
 put-requires-4 c κs = search needs
 
--- src/lines.rt:49:17
 put-address-requires : tie.Need-put-address-requires
 put-address-requires c κs = search needs
 
--- src/lines.rt:49:9
 put-requires-5 : tie.Need-put-requires-5
 put-requires-5 c κs = search needs
 
--- src/lines.rt:50:17
 put-repairs-requires : tie.Need-put-repairs-requires
 put-repairs-requires c κs = search needs
 
--- src/lines.rt:50:9
 put-requires-6 : tie.Need-put-requires-6
 put-requires-6 c κs = search needs
 
--- src/lines.rt:51:17
 put-slicer-requires : tie.Need-put-slicer-requires
 put-slicer-requires c κs = search needs
 
--- src/lines.rt:51:9
 put-requires-7 : tie.Need-put-requires-7
 put-requires-7 c κs = search needs
 
--- src/lines.rt:52:9
 put-float-requires-2 : tie.Need-put-float-requires-2
 put-float-requires-2 c κs = search needs
 
--- src/lines.rt:52:5
 put-requires-8 : tie.Need-put-requires-8
 put-requires-8 c κs = search needs
 
--- src/lines.rt:39:1
 returns : tie.Need-returns
 unfolding foundLine
 returns c =

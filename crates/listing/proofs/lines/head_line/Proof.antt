@@ -6,38 +6,25 @@ use Rattle.listing.proofs.Lengths.{head-short}
 use borrow.Author.Needs.{needs}
 use Rattle.listing.proofs.lines.head_line.Statement.{statement}
 use Rattle.listing.proofs.lines.head_line.Tie as tie
-use Rattle.listing.proofs.lines.head_line.Reads as reads
-use Rattle.listing.proofs.lines.head_line.Lts as lts
-use Rattle.listing.proofs.put.empty.Reads as empty-reads
-use Rattle.listing.proofs.put.put.Reads as put-reads
-use Rattle.listing.proofs.put.put_all.Reads as put-all-reads
-use Rattle.listing.proofs.put.put_decimal.Reads as put-decimal-reads
 
--- src/lines.rt:21:25
 empty-requires : tie.Need-empty-requires
 empty-requires c κs = search needs
 
--- src/lines.rt:21:34
 slice-aggregate-put-all : tie.Need-slice-aggregate-put-all
 slice-aggregate-put-all c = search needs
 
--- src/lines.rt:21:17
 put-all-requires : tie.Need-put-all-requires
 put-all-requires c κs = search needs
 
--- src/lines.rt:21:9
 put-requires : tie.Need-put-requires
 put-requires c κs = search needs
 
--- src/lines.rt:22:9
 put-decimal-requires : tie.Need-put-decimal-requires
 put-decimal-requires c κs = search needs
 
--- src/lines.rt:22:5
 put-requires-2 : tie.Need-put-requires-2
 put-requires-2 c κs = search needs
 
--- src/lines.rt:18:1
 returns : tie.Need-returns
 unfolding headLine
 returns c = finished _ (head-short _) (c .before .before .before .before .before .empty .ensures) (field-more _ _ _ _ (c .before .before .before .put-all .ensures) (c .before .before .put .ensures) (field-last _ _ (c .before .put-decimal .ensures) (c .put2 .ensures)))

@@ -1,44 +1,31 @@
 -- `listing::lines::window_line` meets its contract: number 0, 1, and any other.
 -- Assumes nothing.
-use mathlib.Core.Path.{_∙_, ap}
 use borrow.Author.Tests.{eq-eqb, ne-eqb}
 use Rattle.listing.specs.Lines.{windowLine}
 use borrow.Author.Needs.{needs}
 use Rattle.listing.proofs.lines.window_line.Statement.{statement}
 use Rattle.listing.proofs.lines.window_line.Tie as tie
-use Rattle.listing.proofs.lines.window_line.Reads as reads
-use Rattle.listing.proofs.lines.window_line.Lts as lts
-use Rattle.listing.proofs.lines.found_line.Reads as found-line-reads
-use Rattle.listing.proofs.lines.none_line.Reads as none-line-reads
-use Rattle.listing.proofs.lines.refused_line.Reads as refused-line-reads
 
--- src/lines.rt:61:9
 found-line-requires : tie.Need-found-line-requires
 found-line-requires c κs = search needs
 
--- src/lines.rt:61:9
 returns : tie.Need-returns
 unfolding windowLine
 returns c = simp (eq-eqb _ _ (c .before .if1 .taken)) (c .found-line .ensures)
 
--- src/lines.rt:64:9
 none-line-requires : tie.Need-none-line-requires
 none-line-requires c κs = search needs
 
--- src/lines.rt:64:9
 returns-2 : tie.Need-returns-2
 unfolding windowLine
 returns-2 c = simp (ne-eqb _ _ (c .before .before .before .if1 .left), eq-eqb _ _ (c .before .if2 .taken)) (c .none-line .ensures)
 
--- src/lines.rt:66:18
 cast-refused-line : tie.Need-cast-refused-line
 cast-refused-line c = search needs
 
--- src/lines.rt:66:5
 refused-line-requires : tie.Need-refused-line-requires
 refused-line-requires c κs = search needs
 
--- src/lines.rt:57:1
 returns-3 : tie.Need-returns-3
 unfolding windowLine
 returns-3 c = simp (ne-eqb _ _ (c .before .before .before .before .if1 .left), ne-eqb _ _ (c .before .before .if2 .left)) (c .refused-line .ensures)

@@ -1,7 +1,6 @@
 -- `listing::put::put_decimal`, which calls itself, meets its contract. The measure is the number.
 -- Assumes nothing.
-use mathlib.Core.Path.{_≡_, _∙_, ap, sym, subst}
-use Prim.Native.Nat.{ℕ, _+_, _/_, _%_, _<_}
+use Prim.Native.Nat.{ℕ, _+_, _<_}
 use native.Mathlib.Omega.{arith}
 use borrow.Author.Needs.{needs}
 use borrow.Fn.Kinds.{In}
@@ -55,5 +54,5 @@ pub +put-decimal-spec : {M : Type 1} → statement M
 +put-decimal-spec =
     close μ-put-decimal
     (λ m.
-      put-decimal-lts.spec (put.Pre, put.Post, below m, put-decimal.Post) (at m) put-decimal.Post (cast-put m) (add-put m) (put-requires m) (returns m)
-      (put-decimal-requires m) (cast-put-2 m) (add-put-2 m) (put-requires-2 m) (returns-2 m))
+    put-decimal-lts.spec (put.Pre, put.Post, below m, put-decimal.Post) (at m) put-decimal.Post (cast-put m) (add-put m) (put-requires m) (returns m)
+    (put-decimal-requires m) (cast-put-2 m) (add-put-2 m) (put-requires-2 m) (returns-2 m))

@@ -7,23 +7,17 @@ use Rattle.mode_s.specs.Avr.{hexDigit}
 use borrow.Author.Needs.{needs}
 use Rattle.listing.proofs.put.digit.Statement.{statement}
 use Rattle.listing.proofs.put.digit.Tie as tie
-use Rattle.listing.proofs.put.digit.Reads as reads
-use Rattle.listing.proofs.put.digit.Lts as lts
 
--- src/put.rt:52:17
 add-result : tie.Need-add-result
 add-result c = search needs
 
--- src/put.rt:52:33
 add-result-2 : tie.Need-add-result-2
 add-result-2 c = search needs
 
--- src/put.rt:48:1
 returns : tie.Need-returns
 unfolding hexDigit
 returns c = simp (lt-ltb _ _ (c .if1 .taken))
 
--- src/put.rt:48:1
 returns-2 : tie.Need-returns-2
 unfolding hexDigit
 returns-2 c = simp (le-ltb _ _ (c .if1 .left)) (omega arith)

@@ -4,10 +4,7 @@ use mathlib.Core.Path.{refl}
 use Rattle.listing.specs.Lines.{textOf}
 use Rattle.listing.proofs.put.empty.Statement.{statement}
 use Rattle.listing.proofs.put.empty.Tie as tie
-use Rattle.listing.proofs.put.empty.Reads as reads
-use Rattle.listing.proofs.put.empty.Lts as lts
 
--- src/put.rt:11:1
 returns : tie.Need-returns
 unfolding textOf
 returns c = refl

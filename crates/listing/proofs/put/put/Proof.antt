@@ -1,28 +1,21 @@
 -- `listing::put::put` meets its contract: a full text, and one with room.
 -- Assumes nothing.
-use native.Mathlib.Omega.{arith}
 use borrow.Author.Tests.{le-leb, lt-leb}
 use Rattle.listing.specs.Inner.{putOf}
 use borrow.Author.Needs.{needs}
 use Rattle.listing.proofs.put.put.Statement.{statement}
 use Rattle.listing.proofs.put.put.Tie as tie
-use Rattle.listing.proofs.put.put.Reads as reads
-use Rattle.listing.proofs.put.put.Lts as lts
 
--- src/put.rt:25:9
 returns : tie.Need-returns
 unfolding putOf
 returns c = simp (le-leb _ _ (c .if1 .taken))
 
--- src/put.rt:28:5
 array-write-bytes : tie.Need-array-write-bytes
 array-write-bytes c = search needs
 
--- src/put.rt:30:17
 add-t8 : tie.Need-add-t8
 add-t8 c = search needs
 
--- src/put.rt:20:1
 returns-2 : tie.Need-returns-2
 unfolding putOf
 returns-2 c = simp (lt-leb _ _ (c .before .if1 .left))

@@ -1,8 +1,7 @@
 -- `listing::put::put_all` meets its contract. The loop's invariant: with what is left of the bytes the text is what it is to be.
 -- Assumes nothing.
-use Prim.Native.Nat.{ℕ, _+_, _-_, _≤_}
+use Prim.Native.Nat.{_+_, _-_, _≤_}
 use mathlib.Core.Path.{_≡_, refl, sym, ap, _∙_}
-use native.Mathlib.Omega.{arith}
 use borrow.Author.Needs.{needs}
 use denote.Ref.{now}
 use lib.ListN.{length, drop}
@@ -11,9 +10,6 @@ use Rattle.listing.specs.declared.Text.{Text}
 use Rattle.listing.specs.Inner.{putOf, puts}
 use Rattle.listing.proofs.put.put_all.Statement.{statement}
 use Rattle.listing.proofs.put.put_all.Tie as tie
-use Rattle.listing.proofs.put.put_all.Reads as reads
-use Rattle.listing.proofs.put.put_all.Lts as lts
-use Rattle.listing.proofs.put.put.Reads as put-reads
 
 abbrev Inv-loop : tie.InvT-loop
 Inv-loop bytes text₀ i₀ text i = (i ≤ length bytes) × (puts text (drop i bytes) ≡ puts text₀ bytes)
@@ -21,27 +17,21 @@ Inv-loop bytes text₀ i₀ text i = (i ≤ length bytes) × (puts text (drop i 
 abbrev μ-loop : tie.MeasureT-loop
 μ-loop bytes text₀ i₀ text i = length bytes - i
 
--- src/put.rt:40:5
 loop-holds : tie.Need-loop-holds Inv-loop μ-loop
 loop-holds c = (search needs, refl)
 
--- src/put.rt:41:26
 shared-slice-read-put : tie.Need-shared-slice-read-put Inv-loop μ-loop
 shared-slice-read-put c = search needs
 
--- src/put.rt:41:9
 put-requires : tie.Need-put-requires Inv-loop μ-loop
 put-requires c κs = search needs
 
--- src/put.rt:42:9
 add-i : tie.Need-add-i Inv-loop μ-loop
 add-i c = search needs
 
--- src/put.rt:40:5
 loop-less : tie.Need-loop-less Inv-loop μ-loop
 loop-less c = search needs
 
--- src/put.rt:40:5
 loop-again : tie.Need-loop-again Inv-loop μ-loop
 unfolding puts
 loop-again c =
@@ -49,10 +39,9 @@ loop-again c =
     let bytes = now (c .before .before .before .before .before .args .bytes) in (
       search needs,
       ap (λ (t : Text). puts t (drop (l .i + 1) bytes)) (c .put .ensures)
-      ∙ (sym (over putOf 0 bytes (l .i) (l .text) (c .before .before .loop-test .taken)) ∙ l .inv .1),
+          ∙ (sym (over putOf 0 bytes (l .i) (l .text) (c .before .before .loop-test .taken)) ∙ l .inv .1),
     )
 
--- src/put.rt:35:1
 returns : tie.Need-returns Inv-loop μ-loop
 unfolding puts
 returns c =

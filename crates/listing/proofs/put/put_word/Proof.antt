@@ -5,43 +5,31 @@ use Rattle.listing.proofs.Digits.{hex-more}
 use borrow.Author.Needs.{needs}
 use Rattle.listing.proofs.put.put_word.Statement.{statement}
 use Rattle.listing.proofs.put.put_word.Tie as tie
-use Rattle.listing.proofs.put.put_word.Reads as reads
-use Rattle.listing.proofs.put.put_word.Lts as lts
-use Rattle.listing.proofs.put.put_hex.Reads as put-hex-reads
 
--- src/put.rt:66:24
 cast-put-hex : tie.Need-cast-put-hex
 cast-put-hex c = search needs
 
--- src/put.rt:66:9
 put-hex-requires : tie.Need-put-hex-requires
 put-hex-requires c κs = search needs
 
--- src/put.rt:67:24
 cast-put-hex-2 : tie.Need-cast-put-hex-2
 cast-put-hex-2 c = search needs
 
--- src/put.rt:67:9
 put-hex-requires-2 : tie.Need-put-hex-requires-2
 put-hex-requires-2 c κs = search needs
 
--- src/put.rt:68:24
 cast-put-hex-3 : tie.Need-cast-put-hex-3
 cast-put-hex-3 c = search needs
 
--- src/put.rt:68:9
 put-hex-requires-3 : tie.Need-put-hex-requires-3
 put-hex-requires-3 c κs = search needs
 
--- src/put.rt:69:16
 cast-put-hex-4 : tie.Need-cast-put-hex-4
 cast-put-hex-4 c = search needs
 
--- src/put.rt:69:5
 put-hex-requires-4 : tie.Need-put-hex-requires-4
 put-hex-requires-4 c κs = search needs
 
--- src/put.rt:63:1
 returns : tie.Need-returns
 unfolding hexWord
 returns c = hex-more _ _ _ (c .before .before .before .put-hex .ensures) (hex-more _ _ _ (c .before .before .put-hex2 .ensures) (hex-more _ _ _ (c .before .put-hex3 .ensures) (c .put-hex4 .ensures)))

@@ -4,27 +4,19 @@ use Rattle.probes.specs.Flat.{flatDistance}
 use borrow.Author.Needs.{needs}
 use Rattle.probes.proofs.bits.probe_distance.Statement.{statement}
 use Rattle.probes.proofs.bits.probe_distance.Tie as tie
-use Rattle.probes.proofs.bits.probe_distance.Reads as reads
-use Rattle.probes.proofs.bits.probe_distance.Lts as lts
-use Rattle.streams.proofs.distance.compute_hamming_distance.Reads as compute-hamming-distance-reads
 
--- src/bits.rt:36:11
 compute-hamming-distance-requires : tie.Need-compute-hamming-distance-requires
 compute-hamming-distance-requires c κs = search needs
 
--- src/bits.rt:37:22
 enum-known-value : tie.Need-enum-known-value
 enum-known-value c = search needs
 
--- src/bits.rt:38:27
 enum-known-number : tie.Need-enum-known-number
 enum-known-number c = search needs
 
--- src/bits.rt:32:1
 returns : tie.Need-returns
 returns c = ap flatDistance (sym (c .before .value .given .1) ∙ c .before .before .before .compute-hamming-distance .ensures)
 
--- src/bits.rt:32:1
 returns-2 : tie.Need-returns-2
 returns-2 c = ap flatDistance (sym (c .before .number .given .1) ∙ c .before .before .before .compute-hamming-distance .ensures)
 

@@ -4,27 +4,19 @@ use Rattle.probes.specs.Flat.{flatCrc}
 use borrow.Author.Needs.{needs}
 use Rattle.probes.proofs.bits.probe_remainder.Statement.{statement}
 use Rattle.probes.proofs.bits.probe_remainder.Tie as tie
-use Rattle.probes.proofs.bits.probe_remainder.Reads as reads
-use Rattle.probes.proofs.bits.probe_remainder.Lts as lts
-use Rattle.streams.proofs.crc.compute_crc.Reads as compute-crc-reads
 
--- src/bits.rt:26:11
 compute-crc-requires : tie.Need-compute-crc-requires
 compute-crc-requires c κs = search needs
 
--- src/bits.rt:27:17
 enum-known-value : tie.Need-enum-known-value
 enum-known-value c = search needs
 
--- src/bits.rt:28:22
 enum-known-number : tie.Need-enum-known-number
 enum-known-number c = search needs
 
--- src/bits.rt:22:1
 returns : tie.Need-returns
 returns c = ap flatCrc (sym (c .before .value .given .1) ∙ c .before .before .before .compute-crc .ensures)
 
--- src/bits.rt:22:1
 returns-2 : tie.Need-returns-2
 returns-2 c = ap flatCrc (sym (c .before .number .given .1) ∙ c .before .before .before .compute-crc .ensures)
 

@@ -1,23 +1,17 @@
 -- `probes::bits::repairs_of` meets its contract, by the two tests. Assumes nothing.
 use borrow.Author.Tests.{eq-eqb, ne-eqb}
 use Rattle.probes.specs.Flat.{repairsOf}
-use borrow.Author.Needs.{needs}
 use Rattle.probes.proofs.bits.repairs_of.Statement.{statement}
 use Rattle.probes.proofs.bits.repairs_of.Tie as tie
-use Rattle.probes.proofs.bits.repairs_of.Reads as reads
-use Rattle.probes.proofs.bits.repairs_of.Lts as lts
 
--- src/bits.rt:46:9
 returns : tie.Need-returns
 unfolding repairsOf
 returns c = simp (eq-eqb _ _ (c .if1 .taken))
 
--- src/bits.rt:49:9
 returns-2 : tie.Need-returns-2
 unfolding repairsOf
 returns-2 c = simp (ne-eqb _ _ (c .before .if1 .left), eq-eqb _ _ (c .if2 .taken))
 
--- src/bits.rt:42:1
 returns-3 : tie.Need-returns-3
 unfolding repairsOf
 returns-3 c = simp (ne-eqb _ _ (c .before .if1 .left), ne-eqb _ _ (c .if2 .left))

@@ -4,22 +4,16 @@ use Rattle.probes.specs.Flat.{flatPower}
 use borrow.Author.Needs.{needs}
 use Rattle.probes.proofs.samples.flat.Statement.{statement}
 use Rattle.probes.proofs.samples.flat.Tie as tie
-use Rattle.probes.proofs.samples.flat.Reads as reads
-use Rattle.probes.proofs.samples.flat.Lts as lts
 
--- src/samples.rt:39:19
 enum-known-power : tie.Need-enum-known-power
 enum-known-power c = search needs
 
--- src/samples.rt:40:24
 enum-known-power-2 : tie.Need-enum-known-power-2
 enum-known-power-2 c = search needs
 
--- src/samples.rt:35:1
 returns : tie.Need-returns
 returns c = ap flatPower (sym (c .before .power .given .1))
 
--- src/samples.rt:35:1
 returns-2 : tie.Need-returns-2
 returns-2 c = ap flatPower (sym (c .before .power2 .given .1))
 

@@ -4,20 +4,13 @@ use Rattle.probes.specs.Flat.{flatPower}
 use borrow.Author.Needs.{needs}
 use Rattle.probes.proofs.samples.probe_noise_power.Statement.{statement}
 use Rattle.probes.proofs.samples.probe_noise_power.Tie as tie
-use Rattle.probes.proofs.samples.probe_noise_power.Reads as reads
-use Rattle.probes.proofs.samples.probe_noise_power.Lts as lts
-use Rattle.kernels.proofs.power.postdecode_noise_power.Reads as postdecode-noise-power-reads
-use Rattle.probes.proofs.samples.flat.Reads as flat-reads
 
--- src/samples.rt:55:10
 postdecode-noise-power-requires : tie.Need-postdecode-noise-power-requires
 postdecode-noise-power-requires c κs = search needs
 
--- src/samples.rt:55:5
 flat-requires : tie.Need-flat-requires
 flat-requires c κs = search needs
 
--- src/samples.rt:51:1
 returns : tie.Need-returns
 returns c = c .flat .ensures ∙ ap flatPower (c .before .postdecode-noise-power .ensures)
 

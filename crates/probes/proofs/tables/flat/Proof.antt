@@ -4,42 +4,31 @@ use Rattle.probes.specs.Flat.{flatRepairs}
 use borrow.Author.Needs.{needs}
 use Rattle.probes.proofs.tables.flat.Statement.{statement}
 use Rattle.probes.proofs.tables.flat.Tie as tie
-use Rattle.probes.proofs.tables.flat.Reads as reads
-use Rattle.probes.proofs.tables.flat.Lts as lts
 
--- src/tables.rt:23:26
 enum-told : tie.Need-enum-told
 enum-told c = search needs
 
--- src/tables.rt:29:22
 enum-known-repairs : tie.Need-enum-known-repairs
 enum-known-repairs c = search needs
 
--- src/tables.rt:32:20
 cast-t6 : tie.Need-cast-t6
 cast-t6 c = search needs
 
--- src/tables.rt:35:22
 enum-known-repairs-2 : tie.Need-enum-known-repairs-2
 enum-known-repairs-2 c = search needs
 
--- src/tables.rt:38:20
 cast-t7 : tie.Need-cast-t7
 cast-t7 c = search needs
 
--- src/tables.rt:39:21
 cast-t8 : tie.Need-cast-t8
 cast-t8 c = search needs
 
--- src/tables.rt:19:1
 returns : tie.Need-returns
 returns c = ap flatRepairs (sym (c .enum-told .given .1))
 
--- src/tables.rt:19:1
 returns-2 : tie.Need-returns-2
 returns-2 c = ap flatRepairs (sym (c .before .repairs .given .1))
 
--- src/tables.rt:19:1
 returns-3 : tie.Need-returns-3
 returns-3 c = ap flatRepairs (sym (c .before .repairs2 .given .1))
 

@@ -4,27 +4,19 @@ use Rattle.probes.specs.Flat.{flatFound}
 use borrow.Author.Needs.{needs}
 use Rattle.probes.proofs.tables.flat_found.Statement.{statement}
 use Rattle.probes.proofs.tables.flat_found.Tie as tie
-use Rattle.probes.proofs.tables.flat_found.Reads as reads
-use Rattle.probes.proofs.tables.flat_found.Lts as lts
-use Rattle.probes.proofs.tables.flat.Reads as flat-reads
 
--- src/tables.rt:48:19
 enum-known-f : tie.Need-enum-known-f
 enum-known-f c = search needs
 
--- src/tables.rt:48:31
 flat-requires : tie.Need-flat-requires
 flat-requires c κs = search needs
 
--- src/tables.rt:49:27
 enum-told : tie.Need-enum-told
 enum-told c = search needs
 
--- src/tables.rt:44:1
 returns : tie.Need-returns
 returns c = c .flat .ensures ∙ ap flatFound (sym (c .before .before .f .given .1))
 
--- src/tables.rt:44:1
 returns-2 : tie.Need-returns-2
 returns-2 c = ap flatFound (sym (c .enum-told .given .1))
 

@@ -4,20 +4,13 @@ use Rattle.probes.specs.Flat.{flatFound}
 use borrow.Author.Needs.{needs}
 use Rattle.probes.proofs.tables.probe_single.Statement.{statement}
 use Rattle.probes.proofs.tables.probe_single.Tie as tie
-use Rattle.probes.proofs.tables.probe_single.Reads as reads
-use Rattle.probes.proofs.tables.probe_single.Lts as lts
-use Rattle.probes.proofs.tables.flat_found.Reads as flat-found-reads
-use Rattle.repairs.proofs.single_bit_error_from_crc24.Reads as single-bit-error-from-crc24-reads
 
--- src/tables.rt:62:16
 single-bit-error-from-crc24-requires : tie.Need-single-bit-error-from-crc24-requires
 single-bit-error-from-crc24-requires c κs = search needs
 
--- src/tables.rt:62:5
 flat-found-requires : tie.Need-flat-found-requires
 flat-found-requires c κs = search needs
 
--- src/tables.rt:58:1
 returns : tie.Need-returns
 returns c = c .flat-found .ensures ∙ ap flatFound (c .before .single-bit-error-from-crc24 .ensures)
 

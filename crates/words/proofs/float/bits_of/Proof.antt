@@ -4,18 +4,13 @@ use Rattle.floats.proofs.Nan.{is-nan, no-nan, bits-of-nan}
 use borrow.Author.Needs.{needs}
 use Rattle.words.proofs.float.bits_of.Statement.{statement}
 use Rattle.words.proofs.float.bits_of.Tie as tie
-use Rattle.words.proofs.float.bits_of.Reads as reads
-use Rattle.words.proofs.float.bits_of.Lts as lts
 
--- src/float.rt:24:9
 returns : tie.Need-returns
 returns c = bits-of-nan (c .before .args .x) (is-nan _ (c .if1 .taken))
 
--- src/float.rt:26:5
 float-to-bits-result : tie.Need-float-to-bits-result
 float-to-bits-result c = no-nan (c .before .args .x) (c .if1 .left)
 
--- src/float.rt:20:1
 returns-2 : tie.Need-returns-2
 returns-2 c = search needs
 

@@ -6,19 +6,14 @@ use Rattle.floats.proofs.Nan.{above-is, below-no}
 use borrow.Author.Needs.{needs}
 use Rattle.words.proofs.float.float_of.Statement.{statement}
 use Rattle.words.proofs.float.float_of.Tie as tie
-use Rattle.words.proofs.float.float_of.Reads as reads
-use Rattle.words.proofs.float.float_of.Lts as lts
 
--- src/float.rt:14:9
 returns : tie.Need-returns
 unfolding ofBits div
 returns c = sym (above-is binary32 (c .before .args .bits) (c .if1 .taken))
 
--- src/float.rt:16:5
 float-from-bits-result : tie.Need-float-from-bits-result
 float-from-bits-result c = below-no binary32 (c .before .args .bits) (c .if1 .left)
 
--- src/float.rt:10:1
 returns-2 : tie.Need-returns-2
 returns-2 c = search needs
 

@@ -2,19 +2,15 @@
 -- Assumes nothing.
 use mathlib.Core.List.{List}
 use mathlib.Core.Path.{_≡_, sym, ap, _∙_}
-use Prim.Native.Nat.{ℕ, _+_, _-_, _*_, _≤_}
+use Prim.Native.Nat.{_-_, _≤_}
 use native.Mathlib.Omega.{arith}
 use borrow.Author.Tests.{eq-eqb, ne-eqb}
 use lib.Ieee.{Float, binary32, ofBits}
 use lib.ListN.{length, length-set}
-use Rattle.lists.specs.From.{tabulate}
 use Rattle.lists.proofs.Table.{Done, done-none, done-more, done-all}
 use Rattle.words.specs.Words.{floatAt, windowFloats}
 use Rattle.words.proofs.float.window_floats.Statement.{statement}
 use Rattle.words.proofs.float.window_floats.Tie as tie
-use Rattle.words.proofs.float.window_floats.Reads as reads
-use Rattle.words.proofs.float.window_floats.Lts as lts
-use Rattle.words.proofs.float.float_at.Reads as float-at-reads
 
 abbrev Inv-loop : tie.InvT-loop
 Inv-loop bytes out₀ k₀ out k = (length bytes ≡ 9240) × (k ≤ 2310) × (length out ≡ 2310) × Done (ofBits binary32 0) (floatAt bytes) 2310 out k
@@ -22,41 +18,32 @@ Inv-loop bytes out₀ k₀ out k = (length bytes ≡ 9240) × (k ≤ 2310) × (l
 abbrev μ-loop : tie.MeasureT-loop
 μ-loop bytes out₀ k₀ out k = 2310 - k
 
--- src/float.rt:43:9
 returns : tie.Need-returns Inv-loop μ-loop
 unfolding windowFloats
 returns c = simp (ne-eqb _ _ (c .if1 .taken))
 
--- src/float.rt:46:9
 returns-2 : tie.Need-returns-2 Inv-loop μ-loop
 unfolding windowFloats
 returns-2 c = simp (eq-eqb _ _ (c .before .if1 .left), ne-eqb _ _ (c .if2 .taken))
 
--- src/float.rt:49:5
 loop-holds : tie.Need-loop-holds Inv-loop μ-loop
 loop-holds c = (c .before .if1 .left, omega arith, c .if2 .left, done-none _ _ _ _ (c .if2 .left))
 
--- src/float.rt:50:18
 float-at-requires : tie.Need-float-at-requires Inv-loop μ-loop
 float-at-requires c κs = omega arith
 
--- src/float.rt:50:9
 mul-out : tie.Need-mul-out Inv-loop μ-loop
 mul-out c = omega arith
 
--- src/float.rt:50:9
 slice-write-out : tie.Need-slice-write-out Inv-loop μ-loop
 slice-write-out c = omega arith
 
--- src/float.rt:51:9
 add-k : tie.Need-add-k Inv-loop μ-loop
 add-k c = omega arith
 
--- src/float.rt:49:5
 loop-less : tie.Need-loop-less Inv-loop μ-loop
 loop-less c = omega arith
 
--- src/float.rt:49:5
 loop-again : tie.Need-loop-again Inv-loop μ-loop
 loop-again c =
     let l = c .before .before .loop in (
@@ -66,11 +53,9 @@ loop-again c =
       done-more _ _ _ _ _ _ (omega arith) (l .inv .3) (c .float-at .ensures),
     )
 
--- src/float.rt:39:1
 same-length : tie.Need-same-length Inv-loop μ-loop
 same-length c = c .before .loop .inv .2 ∙ sym (c .before .before .if2 .left)
 
--- src/float.rt:39:1
 returns-3 : tie.Need-returns-3 Inv-loop μ-loop
 unfolding windowFloats
 returns-3 c =

@@ -4,67 +4,49 @@ use Rattle.words.proofs.Bytes.{long-is}
 use borrow.Author.Needs.{needs}
 use Rattle.words.proofs.numbers.long.Statement.{statement}
 use Rattle.words.proofs.numbers.long.Tie as tie
-use Rattle.words.proofs.numbers.long.Reads as reads
-use Rattle.words.proofs.numbers.long.Lts as lts
-use Rattle.words.proofs.numbers.joined.Reads as joined-reads
 
--- src/numbers.rt:22:22
 array-read-joined : tie.Need-array-read-joined
 array-read-joined c = search needs
 
--- src/numbers.rt:22:28
 array-read-joined-2 : tie.Need-array-read-joined-2
 array-read-joined-2 c = search needs
 
--- src/numbers.rt:22:34
 array-read-joined-3 : tie.Need-array-read-joined-3
 array-read-joined-3 c = search needs
 
--- src/numbers.rt:22:40
 array-read-joined-4 : tie.Need-array-read-joined-4
 array-read-joined-4 c = search needs
 
--- src/numbers.rt:22:9
 joined-requires : tie.Need-joined-requires
 joined-requires c κs = search needs
 
--- src/numbers.rt:23:23
 array-read-joined-5 : tie.Need-array-read-joined-5
 array-read-joined-5 c = search needs
 
--- src/numbers.rt:23:29
 array-read-joined-6 : tie.Need-array-read-joined-6
 array-read-joined-6 c = search needs
 
--- src/numbers.rt:23:35
 array-read-joined-7 : tie.Need-array-read-joined-7
 array-read-joined-7 c = search needs
 
--- src/numbers.rt:23:41
 array-read-joined-8 : tie.Need-array-read-joined-8
 array-read-joined-8 c = search needs
 
--- src/numbers.rt:23:9
 joined-requires-2 : tie.Need-joined-requires-2
 joined-requires-2 c κs = search needs
 
--- src/numbers.rt:24:5
 cast-result : tie.Need-cast-result
 cast-result c = search needs
 
--- src/numbers.rt:24:32
 cast-result-2 : tie.Need-cast-result-2
 cast-result-2 c = search needs
 
--- src/numbers.rt:24:18
 mul-result : tie.Need-mul-result
 mul-result c = search needs
 
--- src/numbers.rt:24:5
 add-result : tie.Need-add-result
 add-result c = search needs
 
--- src/numbers.rt:19:1
 returns : tie.Need-returns
 returns c = long-is (c .before .before .args .t1) (search needs) (c .before .joined .ensures) (c .joined2 .ensures)
 

@@ -5,31 +5,22 @@ use Rattle.words.proofs.Bytes.{word-is}
 use borrow.Author.Needs.{needs}
 use Rattle.words.proofs.numbers.word.Statement.{statement}
 use Rattle.words.proofs.numbers.word.Tie as tie
-use Rattle.words.proofs.numbers.word.Reads as reads
-use Rattle.words.proofs.numbers.word.Lts as lts
-use Rattle.words.proofs.numbers.joined.Reads as joined-reads
 
--- src/numbers.rt:16:12
 array-read-joined : tie.Need-array-read-joined
 array-read-joined c = search needs
 
--- src/numbers.rt:16:18
 array-read-joined-2 : tie.Need-array-read-joined-2
 array-read-joined-2 c = search needs
 
--- src/numbers.rt:16:24
 array-read-joined-3 : tie.Need-array-read-joined-3
 array-read-joined-3 c = search needs
 
--- src/numbers.rt:16:30
 array-read-joined-4 : tie.Need-array-read-joined-4
 array-read-joined-4 c = search needs
 
--- src/numbers.rt:16:5
 joined-requires : tie.Need-joined-requires
 joined-requires c κs = search needs
 
--- src/numbers.rt:13:1
 returns : tie.Need-returns
 returns c = c .joined .ensures ∙ word-is (c .before .args .t1) (search needs)
 

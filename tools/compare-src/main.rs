@@ -1,0 +1,404 @@
+//! The proved decoder against the published Rust, and against the rules written down a second time. Built and run by tools/compare.
+mod counts;
+mod generate;
+mod proved;
+mod recipe;
+mod rules;
+
+use counts::Counts;
+use recipe::Random;
+use rules::{Answer, Settings, Tables, bits};
+use std::fmt::Debug;
+use std::io::Write;
+use std::time::Instant;
+
+/// The four variants of the Rust, each with its answers in the same form.
+struct Oracles {
+    a: oracle_a::Oracle,
+    b: oracle_b::Oracle,
+    l: oracle_l::Oracle,
+    s: oracle_s::Oracle,
+}
+
+macro_rules! ask {
+    ($oracle:expr, $s:expr, $samples:expr, $index:expr) => {{
+        if !$oracle.set(($s.level, $s.threshold, $s.second, $s.distance)) {
+            panic!("the Rust refuses the settings {:?}", $s);
+        }
+        match $oracle.decode($samples, $index) {
+            None => Answer::refused(1),
+            Some((place, message, repairs, slicer, cn0, index, fraction)) => Answer {
+                number: 0,
+                place: place.map(|x| x as u64),
+                message,
+                repairs: repairs.map(u64::from),
+                slicer: u64::from(slicer),
+                cn0,
+                index,
+                fraction,
+            },
+        }
+    }};
+}
+
+/// What disagrees: the first are printed, all are counted.
+#[derive(Default)]
+struct Faults(u64);
+
+impl Faults {
+    fn same<T: PartialEq + Debug>(&mut self, what: &str, window: u64, ours: T, theirs: T) -> bool {
+        if ours == theirs {
+            return true;
+        }
+        self.0 += 1;
+        if self.0 <= 10 {
+            println!("compare: {what} disagrees at window {window}\n  proved: {ours:?}\n  other:  {theirs:?}");
+        }
+        false
+    }
+}
+
+fn all_bits(xs: &[f32]) -> Vec<u32> {
+    xs.iter().map(|&x| bits(x)).collect()
+}
+
+const KERNEL_NAMES: &[&str] = &[
+    "kernels: windows",
+    "kernels: remainders and distances",
+    "kernels: offset 33 refused",
+    "kernels: powers",
+    "kernels: headers taken",
+    "kernels: headers not taken",
+    "kernels: position above 111 refused",
+    "kernels: parabolas",
+    "kernels: cn0",
+];
+
+/// Symbols, streams, remainders, distances, powers and headers of the window that oracle a has decoded.
+fn kernels(
+    c: &mut Counts,
+    f: &mut Faults,
+    r: &mut Random,
+    o: &oracle_a::Oracle,
+    number: u64,
+    samples: &[f32],
+    message: &[u8; 14],
+) {
+    c.met("kernels: windows", true);
+    let mut symbols = vec![0.0; 2304];
+    f.same("symbols: number", number, proved::symbols(samples, &mut symbols), 0);
+    f.same("symbols", number, all_bits(&symbols), all_bits(&o.symbols()));
+    let theirs = o.streams();
+    let mut ours = [vec![0; 144], vec![0; 144]];
+    let [coherent, noncoherent] = &mut ours;
+    for k in 0..4 {
+        let part = 36 * k..36 * k + 36;
+        let row = &symbols[576 * k..576 * k + 576];
+        f.same("streams: number", number, proved::streams(row, &mut coherent[part.clone()], &mut noncoherent[part]), 0);
+    }
+    f.same("streams", number, &ours, &theirs);
+    for at in (0..144).step_by(18) {
+        let [a, b] = [&theirs[0][at..at + 18], &theirs[1][at..at + 18]];
+        for offset in 0..33 {
+            for stream in [a, b] {
+                let ours = proved::remainder(stream, offset);
+                f.same("remainder", number, (ours.number, ours.value), (0, oracle_a::remainder(stream, offset)));
+            }
+            let ours = proved::distance(a, b, offset);
+            f.same("distance", number, (ours.number, ours.value), (0, oracle_a::distance(a, b, offset)));
+            c.met("kernels: remainders and distances", true);
+        }
+        c.met("kernels: offset 33 refused", f.same("offset 33", number, proved::remainder(a, 33).number, 7));
+        // A header at an offset, with repairs that fall into it or not.
+        let (offset, stream) = (r.below(33), if r.often(2) { a } else { b });
+        let mut stream = stream.to_vec();
+        if r.often(2) {
+            stream[offset / 8] = 0x88 >> (offset % 8);
+        }
+        let most = r.pick(&[8, 112]);
+        let repairs = [r.below(3) as u8, r.below(most) as u8, r.below(112) as u8];
+        let ours = proved::header(&stream, offset, repairs);
+        let theirs = oracle_a::header(&stream, offset, repairs);
+        f.same("header", number, (ours.number, ours.value), (0, u32::from(theirs)));
+        c.met("kernels: headers taken", theirs);
+        c.met("kernels: headers not taken", !theirs);
+        let high = [1, 112 + r.below(144) as u8, 0];
+        c.met("kernels: position above 111 refused", f.same("position", number, proved::header(&stream, offset, high).number, 8));
+    }
+    for _ in 0..4 {
+        let start = r.below(260);
+        let mut m = *message;
+        if r.often(2) {
+            m = std::array::from_fn(|_| r.word() as u8);
+        }
+        let row = &symbols[576 * (start % 4) + 2 * (start / 4)..][..448];
+        let ours = proved::power(row, &m);
+        f.same("power", number, (ours.number, bits(ours.power)), (0, bits(oracle_a::power(row, &m))));
+        let part = &samples[2 * start..2 * start + 1792];
+        let noise = proved::noise_power(part, &m);
+        f.same("noise power", number, (noise.number, bits(noise.power)), (0, bits(oracle_a::noise_power(part, &m))));
+        c.met("kernels: powers", true);
+        let cn0 = proved::cn0(ours.power, noise.power);
+        f.same("cn0", number, bits(cn0), bits(rules::cn0_of(ours.power, noise.power)));
+        c.met("kernels: cn0", true);
+        let x = [ours.power, noise.power, if r.often(3) { r.pattern() } else { ours.power * r.unit() }];
+        let [a, b, d] = [r.pick(&x), r.pick(&x), r.pick(&x)];
+        f.same("parabola", number, bits(proved::parabola(a, b, d)), bits(oracle_a::parabola(a, b, d)));
+        c.met("kernels: parabolas", true);
+    }
+}
+
+/// Every lookup there is: all 2^24 remainders, and some numbers above them.
+fn lookups(f: &mut Faults, t: &Tables) {
+    let (mut singles, mut doubles) = (0, 0);
+    for crc in (0..1 << 24).chain([1 << 24, u32::MAX]) {
+        let one = oracle_a::single(crc).map_or([0; 4], |j| [1, 1, u32::from(j), 0]);
+        let two = oracle_a::double(crc).map_or([0; 4], |(j, k)| [1, 2, u32::from(j), u32::from(k)]);
+        let ours = [proved::single(crc), proved::double(crc)].map(|x| [x.found, x.count, x.first, x.second]);
+        f.same("single lookup", u64::from(crc), ours[0], one);
+        f.same("double lookup", u64::from(crc), ours[1], two);
+        if crc < 1 << 24 {
+            let ruled = [1, 2].map(|n| t.clearing(n, crc).map_or([0; 4], |[n, j, k]| [1, n as u32, j as u32, k as u32]));
+            f.same("lookup, by the rules", u64::from(crc), ours, ruled);
+        }
+        singles += one[0];
+        doubles += two[0];
+    }
+    f.same("how many single and double errors", 0, (singles, doubles), (112, 6216));
+    println!("lookups: all 16,777,216 remainders, {singles} single and {doubles} double errors");
+}
+
+/// Calls that are refused: the number, and lent memory as it was.
+fn refusals(c: &mut Counts, f: &mut Faults, r: &mut Random, t: &Tables, number: u64, samples: &[f32], s: Settings, index: u64) {
+    let bad = [f32::NAN, f32::INFINITY, f32::NEG_INFINITY];
+    let (mut samples, mut s, mut index) = (samples, s, index);
+    let mut sizes = [14, 8, 2];
+    for _ in 0..1 + r.below(2) {
+        match r.below(5) {
+            0 => samples = &samples[..r.pick(&[0, 1, 2308, 2309]).min(samples.len())],
+            1 => sizes[r.below(3)] = r.below(20),
+            2 => s.level = r.pick(&[3, 4, u32::MAX]),
+            3 if r.often(2) => s.threshold = r.pick(&bad),
+            3 => s.second = r.pick(&bad),
+            _ => index = r.pick(&[0, 127, (1 << 63) + 1, u64::MAX]),
+        }
+    }
+    let mut wanted = rules::decode(t, &mut Counts::default(), samples, s, index).number;
+    if sizes != [14, 8, 2] && wanted != 2 {
+        wanted = 3;
+    }
+    let (mut message, mut words, mut numbers) = (vec![0xA5; sizes[0]], vec![0xA5A5; sizes[1]], vec![1.5; sizes[2]]);
+    let got = proved::decode_into(samples, s, index, &mut message, &mut words, &mut numbers);
+    f.same("refusal", number, got, wanted);
+    if got != 0 {
+        let kept = (message.iter().all(|&x| x == 0xA5), words.iter().all(|&x| x == 0xA5A5), numbers.iter().all(|&x| x == 1.5));
+        f.same("memory of a refused call", number, kept, (true, true, true));
+    }
+    if (2..=6).contains(&got) {
+        c.met(&format!("refused {got}"), true);
+    }
+    // The Rust refuses thresholds that are not finite, and has no level but its three.
+    let taken = oracle_a::Oracle::default().set((s.level, s.threshold, s.second, s.distance));
+    f.same("settings, by the Rust", number, taken, s.level <= 2 && s.threshold.is_finite() && s.second.is_finite());
+}
+
+const CAUSES: &[&str] = &[
+    "A: agrees in every field",
+    "A: cn0 alone, by the logarithm",
+    "A: another answer, by the logarithm at a threshold",
+    "A: another place, by the logarithm in the choice",
+    "A: another answer, by the slip",
+    "A: another answer, by logarithm and slip",
+];
+const LIMIT: f32 = 0.0002;
+
+/// Why the Rust as published answers something else, or nothing that is known.
+fn cause(ours: &Answer, a: &Answer, l: &Answer, s: &Answer, b: &Answer) -> Option<&'static str> {
+    let near = |x: &Answer, y: &Answer| {
+        let gap = (x.cn0 - y.cn0).abs();
+        x.but_cn0().fields() == y.but_cn0().fields() && (bits(x.cn0) == bits(y.cn0) || gap <= LIMIT)
+    };
+    if ours.fields() == a.fields() {
+        return Some(CAUSES[0]);
+    }
+    if near(ours, a) && ours.fields() == l.fields() {
+        return Some(CAUSES[1]);
+    }
+    if ours.fields() == l.fields() {
+        let chosen = ours.number == 0 && a.number == 0 && ours.repairs[0] == a.repairs[0];
+        return Some(CAUSES[if chosen { 3 } else { 2 }]);
+    }
+    if near(ours, s) {
+        return Some(CAUSES[4]);
+    }
+    (ours.fields() == b.fields()).then_some(CAUSES[5])
+}
+
+struct Given {
+    seed: u64,
+    windows: u64,
+    first: u64,
+    variants: String,
+    lookups: bool,
+    record: Option<String>,
+    show: bool,
+}
+
+fn given() -> Given {
+    let mut g = Given { seed: 1, windows: 2000, first: 0, variants: "AB".into(), lookups: false, record: None, show: false };
+    let mut words = std::env::args().skip(1);
+    while let Some(word) = words.next() {
+        let mut value = || words.next().unwrap_or_else(|| panic!("{word} wants a value"));
+        match word.as_str() {
+            "--seed" => g.seed = value().parse().expect("a number"),
+            "--windows" => g.windows = value().parse().expect("a number"),
+            "--first" => g.first = value().parse().expect("a number"),
+            "--variant" => g.variants = value(),
+            "--lookups" => g.lookups = true,
+            "--record" => g.record = Some(value()),
+            "--show" => g.show = true,
+            _ => panic!("{word} is not known"),
+        }
+    }
+    g
+}
+
+fn has(samples: &[f32], test: impl Fn(f32) -> bool) -> bool {
+    samples.iter().any(|&x| test(x))
+}
+
+fn main() {
+    let g = given();
+    let t = &Tables::new();
+    let names = [rules::NAMES, generate::NAMES, KERNEL_NAMES].concat();
+    let c = &mut Counts::of(&names);
+    let causes = &mut Counts::of(CAUSES);
+    let f = &mut Faults::default();
+    let mut o = Oracles {
+        a: oracle_a::Oracle::default(),
+        b: oracle_b::Oracle::default(),
+        l: oracle_l::Oracle::default(),
+        s: oracle_s::Oracle::default(),
+    };
+    f.same("the check value of the CRC, by the division", 0, oracle_a::checksum(b"123456789"), divided(b"123456789"));
+    if g.lookups {
+        lookups(f, t);
+    }
+    let [with_a, with_b] = ["A", "B"].map(|v| g.variants.contains(v));
+    let (mut recorded, mut met_before, mut shown) = (vec![], vec![0u64; c.0.len()], [0; 6]);
+    let (mut unclassified, mut differs_b, mut largest) = (0u64, 0u64, 0f32);
+    let began = Instant::now();
+    let mut told = began;
+    for number in g.first..g.first + g.windows {
+        let made = generate::make(t, g.seed, number);
+        let (samples, s, index) = (&made.samples[..], made.settings, made.index);
+        c.met(made.kind, true);
+        c.met("thresholds set by a first decode", made.adjusted);
+        c.met("has NaN", has(samples, f32::is_nan));
+        c.met("has infinities", has(samples, f32::is_infinite));
+        c.met("has subnormals", has(samples, f32::is_subnormal));
+        c.met("has huge numbers", has(samples, |x| x.is_finite() && x.abs() > 1e30));
+        c.met("has zeros", has(samples, |x| x.to_bits() == 0));
+        c.met("has minus zeros", has(samples, |x| x.to_bits() == 1 << 31));
+        let before: Vec<u64> = if g.record.is_some() { c.0.values().copied().collect() } else { vec![] };
+        let ruled = rules::decode(t, c, samples, s, index);
+        let ours = proved::decode(samples, s, index);
+        f.same("answer, by the rules", number, ours.fields(), ruled.fields());
+        let b = ask!(o.b, s, samples, index);
+        if with_b && !f.same("answer, by the Rust B", number, ours.fields(), b.fields()) {
+            differs_b += 1;
+        }
+        let a = ask!(o.a, s, samples, index);
+        if with_a {
+            let (l, only_s) = (ask!(o.l, s, samples, index), ask!(o.s, s, samples, index));
+            match cause(&ours, &a, &l, &only_s, &b) {
+                Some(name) => {
+                    causes.met(name, true);
+                    if name == CAUSES[1] && (ours.cn0 - a.cn0).abs() > largest {
+                        largest = (ours.cn0 - a.cn0).abs();
+                    }
+                    let k = CAUSES.iter().position(|x| *x == name).unwrap();
+                    shown[k] += 1;
+                    if g.show && k >= 2 && shown[k] <= 5 {
+                        println!("{name}: window {number}, {}\n  ours: {ours:?}\n  A:    {a:?}", made.kind);
+                    }
+                }
+                None => {
+                    unclassified += 1;
+                    f.same("A differs for no known cause: answer", number, ours.fields(), a.fields());
+                }
+            }
+        }
+        let r = &mut Random(number ^ g.seed << 40);
+        if number % 16 == 0 {
+            kernels(c, f, r, &o.a, number, samples, &ours.message);
+        }
+        if number % 8 == 0 {
+            refusals(c, f, r, t, number, samples, s, index);
+        }
+        if let (Some(_), Some(recipe)) = (&g.record, &made.recipe) {
+            // A window is kept where it brings something that is still rare in the list.
+            let now: Vec<u64> = c.0.values().copied().collect();
+            let brings: Vec<usize> = (0..now.len()).filter(|&k| now[k] > before[k]).collect();
+            if brings.iter().any(|&k| met_before[k] < 12) && recipe.stores.len() < 10 {
+                brings.iter().for_each(|&k| met_before[k] += 1);
+                recorded.push(recipe.record(&b));
+            }
+        }
+        if told.elapsed().as_secs() >= 10 {
+            told = Instant::now();
+            let (done, total) = (number + 1 - g.first, g.windows);
+            let rate = done as f64 / began.elapsed().as_secs_f64();
+            let left = (total - done) as f64 / rate;
+            eprintln!(
+                "compare: {done} of {total} windows, {rate:.0} a second, {:.0} min {:02.0} s left, {} disagree",
+                (left / 60.0).floor(),
+                left % 60.0,
+                f.0
+            );
+        }
+    }
+    let seconds = began.elapsed().as_secs_f64();
+    println!(
+        "compare: seed {}, windows {} to {}, {seconds:.0} s, {:.0} a second",
+        g.seed,
+        g.first,
+        g.first + g.windows - 1,
+        g.windows as f64 / seconds
+    );
+    for (name, times) in &c.0 {
+        println!("{times:>12}  {name}");
+    }
+    if with_a {
+        for (name, times) in &causes.0 {
+            println!("{times:>12}  {name}");
+        }
+        println!("{unclassified:>12}  A: differs for no known cause");
+        println!("the largest gap of cn0 to A: {largest} dB");
+    }
+    if let Some(path) = &g.record {
+        let mut file = std::fs::File::create(path).expect("the record's file");
+        file.write_all(&(recorded.len() as u32).to_le_bytes()).unwrap();
+        recorded.iter().for_each(|x| file.write_all(x).unwrap());
+        println!("compare: {} windows recorded", recorded.len());
+    }
+    let none = c.none();
+    none.iter().for_each(|name| println!("compare: never met: {name}"));
+    println!("compare: {} windows, B disagrees at {differs_b}, {} faults in all, {} counts are 0", g.windows, f.0, none.len());
+    if f.0 > 0 || !none.is_empty() {
+        std::process::exit(1);
+    }
+}
+
+/// The remainder of a string of bytes, one bit at a time.
+fn divided(bytes: &[u8]) -> u32 {
+    let mut r: u32 = 0;
+    for j in 0..8 * bytes.len() + 24 {
+        let bit = bytes.get(j / 8).map_or(0, |b| b >> (7 - j % 8) & 1);
+        r = 2 * r + u32::from(bit);
+        if r >> 24 == 1 {
+            r ^= 0x1FF_F409;
+        }
+    }
+    r
+}

@@ -1,0 +1,127 @@
+//! The proved library, compiled for this machine.
+use crate::rules::{Answer, Settings};
+
+#[repr(C)]
+pub struct Number {
+    pub number: u32,
+    pub value: u32,
+}
+#[repr(C)]
+pub struct Power {
+    pub number: u32,
+    pub power: f32,
+}
+#[repr(C)]
+pub struct Found {
+    pub found: u32,
+    pub count: u32,
+    pub first: u32,
+    pub second: u32,
+}
+
+#[link(name = "khlongrae", kind = "static")]
+unsafe extern "C" {
+    fn khlongrae_decode(
+        samples: *const f32,
+        samples_len: usize,
+        level: u32,
+        threshold: f32,
+        second: f32,
+        distance: u32,
+        index: u64,
+        message: *mut u8,
+        message_len: usize,
+        words: *mut u64,
+        words_len: usize,
+        numbers: *mut f32,
+        numbers_len: usize,
+    ) -> u32;
+}
+
+#[link(name = "probes", kind = "static")]
+unsafe extern "C" {
+    fn probe_symbols(samples: *const f32, n: usize, symbols: *mut f32, m: usize) -> u32;
+    fn probe_streams(row: *const f32, n: usize, coherent: *mut u8, m: usize, noncoherent: *mut u8, k: usize) -> u32;
+    fn probe_power(symbols: *const f32, n: usize, message: *const u8, m: usize) -> Power;
+    fn probe_noise_power(samples: *const f32, n: usize, message: *const u8, m: usize) -> Power;
+    fn probe_cn0(prompt: f32, noise: f32) -> f32;
+    fn probe_parabola(early: f32, prompt: f32, late: f32) -> f32;
+    fn probe_remainder(bytes: *const u8, n: usize, offset: usize) -> Number;
+    fn probe_distance(a: *const u8, n: usize, b: *const u8, m: usize, offset: usize) -> Number;
+    fn probe_header(bytes: *const u8, n: usize, offset: usize, count: u32, j: u8, k: u8) -> Number;
+    fn probe_single(crc: u32) -> Found;
+    fn probe_double(crc: u32) -> Found;
+}
+
+/// The number, and the lent memory as it was left.
+pub fn decode_into(samples: &[f32], s: Settings, index: u64, message: &mut [u8], words: &mut [u64], numbers: &mut [f32]) -> u32 {
+    unsafe {
+        khlongrae_decode(
+            samples.as_ptr(),
+            samples.len(),
+            s.level,
+            s.threshold,
+            s.second,
+            s.distance,
+            index,
+            message.as_mut_ptr(),
+            message.len(),
+            words.as_mut_ptr(),
+            words.len(),
+            numbers.as_mut_ptr(),
+            numbers.len(),
+        )
+    }
+}
+
+/// Where the number is not 0 the memory still holds the zeros that it was lent with.
+pub fn decode(samples: &[f32], s: Settings, index: u64) -> Answer {
+    let (mut message, mut words, mut numbers) = ([0; 14], [0; 8], [0.0; 2]);
+    let number = decode_into(samples, s, index, &mut message, &mut words, &mut numbers);
+    let [index, bit, phase, symbol, count, first, second, slicer] = words;
+    Answer {
+        number,
+        place: [bit, phase, symbol],
+        message,
+        repairs: [count, first, second],
+        slicer,
+        cn0: numbers[0],
+        index,
+        fraction: numbers[1],
+    }
+}
+
+pub fn symbols(samples: &[f32], out: &mut [f32]) -> u32 {
+    unsafe { probe_symbols(samples.as_ptr(), samples.len(), out.as_mut_ptr(), out.len()) }
+}
+pub fn streams(row: &[f32], coherent: &mut [u8], noncoherent: &mut [u8]) -> u32 {
+    let (n, c, m) = (row.len(), coherent.len(), noncoherent.len());
+    unsafe { probe_streams(row.as_ptr(), n, coherent.as_mut_ptr(), c, noncoherent.as_mut_ptr(), m) }
+}
+pub fn power(symbols: &[f32], message: &[u8]) -> Power {
+    unsafe { probe_power(symbols.as_ptr(), symbols.len(), message.as_ptr(), message.len()) }
+}
+pub fn noise_power(samples: &[f32], message: &[u8]) -> Power {
+    unsafe { probe_noise_power(samples.as_ptr(), samples.len(), message.as_ptr(), message.len()) }
+}
+pub fn cn0(prompt: f32, noise: f32) -> f32 {
+    unsafe { probe_cn0(prompt, noise) }
+}
+pub fn parabola(early: f32, prompt: f32, late: f32) -> f32 {
+    unsafe { probe_parabola(early, prompt, late) }
+}
+pub fn remainder(bytes: &[u8], offset: usize) -> Number {
+    unsafe { probe_remainder(bytes.as_ptr(), bytes.len(), offset) }
+}
+pub fn distance(a: &[u8], b: &[u8], offset: usize) -> Number {
+    unsafe { probe_distance(a.as_ptr(), a.len(), b.as_ptr(), b.len(), offset) }
+}
+pub fn header(bytes: &[u8], offset: usize, [count, j, k]: [u8; 3]) -> Number {
+    unsafe { probe_header(bytes.as_ptr(), bytes.len(), offset, u32::from(count), j, k) }
+}
+pub fn single(crc: u32) -> Found {
+    unsafe { probe_single(crc) }
+}
+pub fn double(crc: u32) -> Found {
+    unsafe { probe_double(crc) }
+}

@@ -1,0 +1,475 @@
+//! The rules, written down a second time and apart from both decoders. This is where the branches are counted.
+use crate::counts::Counts;
+
+#[derive(Clone, Copy, Debug, PartialEq)]
+pub struct Settings {
+    pub level: u32,
+    pub threshold: f32,
+    pub second: f32,
+    pub distance: u32,
+}
+
+/// Where the number is not 0 the rest is zeros. Slicer 0 is coherent; repairs are their count and positions.
+#[derive(Clone, Copy, Debug, Default)]
+pub struct Answer {
+    pub number: u32,
+    pub place: [u64; 3],
+    pub message: [u8; 14],
+    pub repairs: [u64; 3],
+    pub slicer: u64,
+    pub cn0: f32,
+    pub index: u64,
+    pub fraction: f32,
+}
+
+/// A float's bits, with one pattern for all NaNs.
+pub fn bits(x: f32) -> u32 {
+    if x.is_nan() { 0x7FC0_0000 } else { x.to_bits() }
+}
+
+impl Answer {
+    pub fn refused(number: u32) -> Answer {
+        Answer { number, ..Answer::default() }
+    }
+    /// Every field, floats by their bits.
+    pub fn fields(&self) -> (u32, [u64; 3], [u8; 14], [u64; 3], u64, u32, u64, u32) {
+        (self.number, self.place, self.message, self.repairs, self.slicer, bits(self.cn0), self.index, bits(self.fraction))
+    }
+    /// The same but for cn0.
+    pub fn but_cn0(&self) -> Answer {
+        Answer { cn0: 0.0, ..*self }
+    }
+}
+
+type Complex = (f32, f32);
+fn plus(a: Complex, b: Complex) -> Complex {
+    (a.0 + b.0, a.1 + b.1)
+}
+fn norm(z: Complex) -> f32 {
+    z.0 * z.0 + z.1 * z.1
+}
+fn sample(samples: &[f32], j: usize) -> Complex {
+    (samples[2 * j], samples[2 * j + 1])
+}
+
+/// The remainder of 112 bits, the first highest, times x^24, one bit at a time.
+pub fn remainder(message: u128) -> u32 {
+    let mut r: u32 = 0;
+    for j in 0..136 {
+        let bit = if j < 112 { (message >> (111 - j)) as u32 & 1 } else { 0 };
+        r = 2 * r + bit;
+        if r >> 24 == 1 {
+            r ^= 0x1FF_F409;
+        }
+    }
+    r
+}
+
+pub fn bytes_of(message: u128) -> [u8; 14] {
+    std::array::from_fn(|k| (message >> (104 - 8 * k)) as u8)
+}
+pub fn at(j: usize) -> u128 {
+    1 << (111 - j)
+}
+
+pub fn header(first: u8) -> bool {
+    match first >> 3 {
+        17 => [0, 4, 5, 6, 7].contains(&(first & 7)),
+        18 => [0, 2, 3, 4, 5, 6].contains(&(first & 7)),
+        _ => false,
+    }
+}
+fn good(message: u128) -> bool {
+    header((message >> 104) as u8)
+}
+
+pub fn ten_log10(x: f32) -> f32 {
+    if x.is_nan() || x < 0.0 {
+        return f32::NAN;
+    }
+    if x == 0.0 {
+        return f32::NEG_INFINITY;
+    }
+    if x == f32::INFINITY {
+        return x;
+    }
+    // Exact: every f32 is an f64 with a full significand.
+    let wide = f64::from(x).to_bits();
+    let e = (wide >> 52) as i64 - 1023;
+    let mut r = ((wide & ((1 << 52) - 1)) | 1 << 52) >> 21;
+    let mut l = 65536 * e;
+    for k in (0..16).rev() {
+        let t = u128::from(r) * u128::from(r);
+        if t >= 1 << 63 {
+            l += 1 << k;
+            r = (t >> 32) as u64;
+        } else {
+            r = (t >> 31) as u64;
+        }
+    }
+    l as f32 * f32::from_bits(0x3840_A8C1)
+}
+
+pub fn cn0_of(prompt: f32, noise_power: f32) -> f32 {
+    let noise = 2.0 * noise_power;
+    let difference = prompt - noise;
+    let signal = if difference > 0.0 { difference } else { 0.0 };
+    ten_log10((signal / noise) * 2_000_000.0)
+}
+
+pub fn parabola(early: f32, prompt: f32, late: f32) -> f32 {
+    let d = (late + early) - 2.0 * prompt;
+    if d == 0.0 { 0.0 } else { (-0.5 * (late - early)) / d }
+}
+
+/// For each remainder what clears it: 0 nothing, else 1 more than the number of the choice.
+pub struct Tables {
+    which: Vec<u16>,
+    choices: Vec<[u64; 3]>,
+    of_bit: [u32; 112],
+}
+
+impl Tables {
+    pub fn new() -> Tables {
+        let of_bit: [u32; 112] = std::array::from_fn(|j| remainder(at(j)));
+        let (mut which, mut choices) = (vec![0; 1 << 24], vec![]);
+        let mut put = |r: u32, choice| {
+            assert!(r != 0 && which[r as usize] == 0, "two choices have one remainder");
+            choices.push(choice);
+            which[r as usize] = choices.len() as u16;
+        };
+        for j in 0..112 {
+            put(of_bit[j], [1, j as u64, 0]);
+            for k in j + 1..112 {
+                put(of_bit[j] ^ of_bit[k], [2, j as u64, k as u64]);
+            }
+        }
+        Tables { which, choices, of_bit }
+    }
+    /// The positions, as many as asked for, that clear a remainder.
+    pub fn clearing(&self, count: u64, r: u32) -> Option<[u64; 3]> {
+        if count == 0 {
+            return (r == 0).then_some([0; 3]);
+        }
+        let choice = self.choices[usize::from(self.which[r as usize].checked_sub(1)?)];
+        (choice[0] == count).then_some(choice)
+    }
+    pub fn remainder(&self, message: u128) -> u32 {
+        let (mut m, mut r) = (message, 0);
+        while m != 0 {
+            let j = m.leading_zeros() as usize - 16;
+            r ^= self.of_bit[j];
+            m ^= at(j);
+        }
+        r
+    }
+}
+
+pub fn repaired(message: u128, repairs: [u64; 3]) -> u128 {
+    repairs[1..=repairs[0] as usize].iter().fold(message, |m, &j| m ^ at(j as usize))
+}
+
+/// What the rules see of a window.
+pub struct Window<'a> {
+    samples: &'a [f32],
+    symbols: Vec<[Complex; 288]>,
+    /// By slicer, clock phase, symbol offset: the 144 bits.
+    streams: Vec<[u8; 144]>,
+}
+
+impl Window<'_> {
+    pub fn of(samples: &[f32]) -> Window<'_> {
+        let symbols: Vec<[Complex; 288]> = (0..4)
+            .map(|k| std::array::from_fn(|n| (0..4).fold((0.0, 0.0), |z, m| plus(z, sample(samples, 4 * n + k + m)))))
+            .collect();
+        let mut streams = vec![];
+        for slicer in 0..2 {
+            for row in &symbols {
+                for s in 0..2 {
+                    streams.push(std::array::from_fn(|i| {
+                        if 2 * i + s + 1 == 288 {
+                            return 0;
+                        }
+                        let (a, b) = (row[2 * i + s], row[2 * i + s + 1]);
+                        u8::from(if slicer == 0 { a.0 > b.0 } else { norm(a) > norm(b) })
+                    }));
+                }
+            }
+        }
+        Window { samples, symbols, streams }
+    }
+    pub fn bits(&self, slicer: usize, [bit, phase, symbol]: [usize; 3]) -> u128 {
+        let stream = &self.streams[8 * slicer + 2 * phase + symbol];
+        stream[bit..bit + 112].iter().fold(0, |m, &b| m << 1 | u128::from(b))
+    }
+    pub fn distance(&self, place: [usize; 3]) -> u32 {
+        (self.bits(0, place) ^ self.bits(1, place)).count_ones()
+    }
+    /// At the place that starts with a sample.
+    pub fn prompt(&self, start: usize, message: u128) -> f32 {
+        let row = &self.symbols[start % 4];
+        (0..112).fold(0.0, |sum, j| sum + norm(row[start / 4 + 2 * j + usize::from(message & at(j) == 0)]))
+    }
+    pub fn noise(&self, start: usize, message: u128) -> f32 {
+        (0..112).fold(0.0, |sum, j| {
+            let empty = start + 8 * j + if message & at(j) == 0 { 0 } else { 4 };
+            sum + norm(plus(sample(self.samples, empty + 1), sample(self.samples, empty + 2)))
+        })
+    }
+}
+
+#[derive(Clone, Copy)]
+struct Reading {
+    trial: u32,
+    slicer: usize,
+    repairs: [u64; 3],
+}
+
+#[derive(Clone, Copy)]
+struct Candidate {
+    place: [usize; 3],
+    reading: Reading,
+    message: u128,
+    cn0: f32,
+}
+
+/// The names of all that is counted here.
+pub const NAMES: &[&str] = &[
+    "reading by trial #1-6",
+    "answer by trial #1-6",
+    "header bad at trial #1-6",
+    "slip: trial 5 passes behind a trial 4 whose header failed",
+    "trial 4 skipped, remainders equal, and it would have passed",
+    "trial 6 skipped, remainders equal, and it would have passed",
+    "trial 5 dropped, and trial 6 would have passed",
+    "dropped below the first threshold",
+    "dropped below the second threshold, by the distance",
+    "saved by the distance alone",
+    "coherent, two repairs, below the second threshold, survives",
+    "cn0 exactly at the first threshold, survives",
+    "cn0 exactly at the second threshold, survives",
+    "distance exactly at its limit, dropped",
+    "distance one below its limit, survives",
+    "NaN cn0 with two repairs survives",
+    "choice: fewer repairs replace",
+    "choice: greater cn0 replaces",
+    "choice: more repairs do not replace",
+    "choice: lower cn0 does not replace",
+    "choice: equal cn0 does not replace",
+    "choice: NaN holder kept",
+    "choice: NaN newcomer does not replace",
+    "choice: NaN holder replaced by fewer repairs",
+    "choice: NaN newcomer replaces by fewer repairs",
+    "moves -2",
+    "moves -1",
+    "moves 0",
+    "moves +1",
+    "moves +2",
+    "parabola held to -1",
+    "parabola held to 1",
+    "parabola with d = 0",
+    "fraction NaN",
+    "neighbour earlier takes over",
+    "neighbour later takes over",
+    "neighbour earlier, then later takes over",
+    "no neighbour takes over",
+    "answer at the first place",
+    "answer at the last place",
+    "cn0 NaN",
+    "cn0 infinite",
+    "cn0 minus infinite",
+    "cn0 finite",
+    "level #0-2",
+    "found",
+    "nothing found",
+    "refused #2-6",
+];
+
+fn passes(t: &Tables, c: &mut Counts, trial: u32, message: u128, r: u32) -> Option<[u64; 3]> {
+    let found = t.clearing(u64::from(trial - 1) / 2, r)?;
+    if good(repaired(message, found)) {
+        return Some(found);
+    }
+    c.met(&format!("header bad at trial {trial}"), true);
+    None
+}
+
+/// The first trial that passes.
+fn reading(t: &Tables, c: &mut Counts, level: u32, coherent: u128, noncoherent: u128) -> Option<Reading> {
+    let r = [t.remainder(coherent), t.remainder(noncoherent)];
+    let mut slips = false;
+    for trial in 1..=6 {
+        let slicer = usize::from(trial % 2 == 0);
+        let message = [coherent, noncoherent][slicer];
+        if (trial - 1) / 2 > level {
+            break;
+        }
+        if trial > 3 && slicer == 1 && r[0] == r[1] {
+            let skipped = t.clearing(u64::from(trial - 1) / 2, r[1]).is_some_and(|found| good(repaired(message, found)));
+            if skipped {
+                c.met(&format!("trial {trial} skipped, remainders equal, and it would have passed"), true);
+            }
+            continue;
+        }
+        if let Some(repairs) = passes(t, c, trial, message, r[slicer]) {
+            c.met(&format!("reading by trial {trial}"), true);
+            c.met("slip: trial 5 passes behind a trial 4 whose header failed", trial == 5 && slips);
+            return Some(Reading { trial, slicer, repairs });
+        }
+        slips |= trial == 4 && t.clearing(1, r[1]).is_some();
+    }
+    None
+}
+
+fn dropped(t: &Tables, c: &mut Counts, s: Settings, w: &Window, new: &Candidate) -> bool {
+    if new.reading.repairs[0] < 2 {
+        return false;
+    }
+    let cn0 = new.cn0;
+    let noncoherent = new.reading.slicer == 1;
+    let distance = w.distance(new.place);
+    c.met("cn0 exactly at the first threshold, survives", cn0 == s.threshold && (!noncoherent || cn0 >= s.second));
+    c.met("NaN cn0 with two repairs survives", cn0.is_nan());
+    if cn0 < s.threshold {
+        c.met("dropped below the first threshold", true);
+        let coherent = w.bits(0, new.place);
+        let other = w.bits(1, new.place);
+        let r = t.remainder(other);
+        let sixth = t.clearing(2, r).is_some_and(|found| good(repaired(other, found)));
+        c.met("trial 5 dropped, and trial 6 would have passed", new.reading.trial == 5 && sixth && r != t.remainder(coherent));
+        return true;
+    }
+    c.met("coherent, two repairs, below the second threshold, survives", !noncoherent && cn0 < s.second);
+    c.met("cn0 exactly at the second threshold, survives", noncoherent && cn0 == s.second && distance >= s.distance);
+    if noncoherent && cn0 < s.second {
+        c.met("dropped below the second threshold, by the distance", distance >= s.distance);
+        c.met("distance exactly at its limit, dropped", distance == s.distance);
+        c.met("saved by the distance alone", distance < s.distance);
+        c.met("distance one below its limit, survives", Some(distance + 1) == Some(s.distance));
+        return distance >= s.distance;
+    }
+    false
+}
+
+fn replaces(c: &mut Counts, new: &Candidate, held: &Candidate) -> bool {
+    let (n, h) = (new.reading.repairs[0], held.reading.repairs[0]);
+    if n < h {
+        c.met("choice: fewer repairs replace", true);
+        c.met("choice: NaN holder replaced by fewer repairs", held.cn0.is_nan());
+        c.met("choice: NaN newcomer replaces by fewer repairs", new.cn0.is_nan());
+        return true;
+    }
+    if n > h {
+        c.met("choice: more repairs do not replace", true);
+        return false;
+    }
+    c.met("choice: NaN holder kept", held.cn0.is_nan() && !new.cn0.is_nan());
+    c.met("choice: NaN newcomer does not replace", new.cn0.is_nan() && !held.cn0.is_nan());
+    c.met("choice: lower cn0 does not replace", new.cn0 < held.cn0);
+    c.met("choice: equal cn0 does not replace", new.cn0 == held.cn0);
+    c.met("choice: greater cn0 replaces", new.cn0 > held.cn0);
+    new.cn0 > held.cn0
+}
+
+fn timing(c: &mut Counts, w: &Window, start: usize, message: u128) -> (i64, f32) {
+    let own = w.prompt(start, message);
+    let (early, late) = (w.prompt(start - 1, message), w.prompt(start + 1, message));
+    let (mut offset, mut power) = (0i64, own);
+    if early > power {
+        (offset, power) = (-1, early);
+    }
+    if late > power {
+        c.met("neighbour earlier, then later takes over", offset == -1);
+        (offset, power) = (1, late);
+    }
+    c.met("neighbour earlier takes over", offset == -1);
+    c.met("neighbour later takes over", offset == 1);
+    c.met("no neighbour takes over", offset == 0);
+    let at = (start as i64 + offset) as usize;
+    let (before, after) = (w.prompt(at - 1, message), w.prompt(at + 1, message));
+    let mut p = parabola(before, power, after);
+    c.met("parabola with d = 0", (after + before) - 2.0 * power == 0.0);
+    if p < -1.0 {
+        c.met("parabola held to -1", true);
+        p = -1.0;
+    } else if p > 1.0 {
+        c.met("parabola held to 1", true);
+        p = 1.0;
+    }
+    let mut fraction = (p + offset as f32) - 0.5;
+    let mut moves = 0;
+    while fraction < -0.5 {
+        (fraction, moves) = (fraction + 1.0, moves - 1);
+    }
+    while fraction >= 0.5 {
+        (fraction, moves) = (fraction - 1.0, moves + 1);
+    }
+    c.met("fraction NaN", fraction.is_nan());
+    c.met(["moves -2", "moves -1", "moves 0", "moves +1", "moves +2"][(moves + 2) as usize], true);
+    (moves, fraction)
+}
+
+pub fn decode(t: &Tables, c: &mut Counts, samples: &[f32], s: Settings, index: u64) -> Answer {
+    let number = if samples.len() != 2310 {
+        2
+    } else if s.level > 2 {
+        4
+    } else if !s.threshold.is_finite() || !s.second.is_finite() {
+        5
+    } else if !(128..=1 << 63).contains(&index) {
+        6
+    } else {
+        0
+    };
+    if number != 0 {
+        c.met(&format!("refused {number}"), true);
+        return Answer::refused(number);
+    }
+    c.met(&format!("level {}", s.level), true);
+    let w = &Window::of(samples);
+    let mut held: Option<Candidate> = None;
+    for bit in 1..32 {
+        for phase in 0..4 {
+            for symbol in 0..2 {
+                let place = [bit, phase, symbol];
+                let words = [w.bits(0, place), w.bits(1, place)];
+                let Some(reading) = reading(t, c, s.level, words[0], words[1]) else { continue };
+                let message = repaired(words[reading.slicer], reading.repairs);
+                let start = 4 * (2 * bit + symbol) + phase;
+                let cn0 = cn0_of(w.prompt(start, message), w.noise(start, message));
+                let new = Candidate { place, reading, message, cn0 };
+                if dropped(t, c, s, w, &new) {
+                    continue;
+                }
+                if held.as_ref().is_none_or(|h| replaces(c, &new, h)) {
+                    held = Some(new);
+                }
+            }
+        }
+    }
+    let Some(best) = held else {
+        c.met("nothing found", true);
+        return Answer::refused(1);
+    };
+    let [bit, phase, symbol] = best.place;
+    let start = 4 * (2 * bit + symbol) + phase;
+    let (moves, fraction) = timing(c, w, start, best.message);
+    c.met("found", true);
+    c.met(&format!("answer by trial {}", best.reading.trial), true);
+    c.met("answer at the first place", best.place == [1, 0, 0]);
+    c.met("answer at the last place", best.place == [31, 3, 1]);
+    c.met("cn0 NaN", best.cn0.is_nan());
+    c.met("cn0 infinite", best.cn0 == f32::INFINITY);
+    c.met("cn0 minus infinite", best.cn0 == f32::NEG_INFINITY);
+    c.met("cn0 finite", best.cn0.is_finite());
+    Answer {
+        number: 0,
+        place: best.place.map(|x| x as u64),
+        message: bytes_of(best.message),
+        repairs: best.reading.repairs,
+        slicer: best.reading.slicer as u64,
+        cn0: best.cn0,
+        index: (index - 128 + start as u64).wrapping_add_signed(moves),
+        fraction,
+    }
+}

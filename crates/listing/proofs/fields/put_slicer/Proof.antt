@@ -20,11 +20,11 @@ put-requires-2 c κs = search needs
 
 returns : tie.Need-returns
 unfolding slicerText
-returns c = rw (c .before .enum-told .given .1) (puts-one _ _ (c .put .ensures))
+returns c = rw (c .before .enum-told .given .1) (puts-one _ 0x43 (c .put .ensures))
 
 returns-2 : tie.Need-returns-2
 unfolding slicerText
-returns-2 c = rw (c .before .enum-told2 .given .1) (puts-one _ _ (c .put2 .ensures))
+returns-2 c = rw (c .before .enum-told2 .given .1) (puts-one _ 0x4E (c .put2 .ensures))
 
 pub put-slicer-spec : {M : Type 1} → statement M
 put-slicer-spec =

@@ -230,6 +230,42 @@ fn recipe(r: &mut Random, t: &Tables) -> (&'static str, Recipe) {
     (kind, recipe)
 }
 
+/// One message from sample 128 on, with the settings of the window program's example.
+fn plain(coherent: u128, noncoherent: u128, shape: Shape, threshold: u32, stores: &[(u32, u32)]) -> Recipe {
+    let plant = Plant { start: 128, amplitude: 1.0, coherent: bytes_of(coherent), noncoherent: bytes_of(noncoherent) };
+    let blank = Plant { amplitude: 0.0, ..plant };
+    Recipe {
+        settings: Settings { level: 2, threshold: f32::from_bits(threshold), second: 71.0, distance: 8 },
+        index: 128,
+        seed: 1,
+        noise: 0.0,
+        scale: 1.0,
+        shape,
+        plants: [plant, blank, blank, blank],
+        stores: stores.to_vec(),
+    }
+}
+
+/// Windows that docs/DIFFERENCES.md names, each with the cause of A's difference by its number.
+pub fn named() -> [(&'static str, usize, Recipe); 5] {
+    const SIXTY_SEVEN: u32 = 0x4286_0000;
+    let m: u128 = 0x8807_76AC << 80;
+    let tie = [(286, 0x3F00_0000), (278, 0x3EFF_FFF3), (266, 0x4080_0000)];
+    let mut blank = plain(0, 0, Shape::Full, SIXTY_SEVEN, &[]);
+    blank.plants[0].amplitude = 0.0;
+    [
+        ("the example, window 0", 0, plain(m, m, Shape::Full, SIXTY_SEVEN, &[])),
+        ("the example, window 1", 0, blank),
+        ("the slip", 4, plain(m | 3, 1, Shape::Thin, SIXTY_SEVEN, &[])),
+        (
+            "the logarithm at a threshold",
+            2,
+            plain(m | 3, m | 3, Shape::Full, 0x42A6_B36F, &[(266, 0x3E00_0000), (268, 0x3E00_0000)]),
+        ),
+        ("the logarithm in the choice", 3, plain(m, m, Shape::Thin, SIXTY_SEVEN, &tie)),
+    ]
+}
+
 /// Pulses of 500 ns that start between samples, with a phase error, in noise.
 fn transmit(r: &mut Random, x: &mut [f32], message: u128, start: f32, amplitude: f32, phase: f32) {
     let (re, im) = (amplitude * phase.cos(), amplitude * phase.sin());

@@ -274,6 +274,7 @@ fn main() {
     let c = &mut Counts::of(&names);
     let causes = &mut Counts::of(CAUSES);
     let f = &mut Faults::default();
+    let mut recorded = vec![];
     let mut o = Oracles {
         a: oracle_a::Oracle::default(),
         b: oracle_b::Oracle::default(),
@@ -284,8 +285,20 @@ fn main() {
     if g.lookups {
         lookups(f, t);
     }
+    for (name, wanted, recipe) in generate::named() {
+        let (samples, s, index) = (recipe.window(), recipe.settings, recipe.index);
+        let ours = proved::decode(&samples, s, index);
+        let [a, b] = [ask!(o.a, s, &samples, index), ask!(o.b, s, &samples, index)];
+        let [l, only_s] = [ask!(o.l, s, &samples, index), ask!(o.s, s, &samples, index)];
+        f.same(name, 0, ours.fields(), b.fields());
+        f.same(name, 0, cause(&ours, &a, &l, &only_s, &b), Some(CAUSES[wanted]));
+        recorded.push(recipe.record(&b));
+        if g.show {
+            println!("{name}\n  ours: {ours:?}\n  A:    {a:?}");
+        }
+    }
     let [with_a, with_b] = ["A", "B"].map(|v| g.variants.contains(v));
-    let (mut recorded, mut met_before, mut shown) = (vec![], vec![0u64; c.0.len()], [0; 6]);
+    let (mut met_before, mut shown) = (vec![0u64; c.0.len()], [0; 6]);
     let (mut unclassified, mut differs_b, mut largest) = (0u64, 0u64, 0f32);
     let began = Instant::now();
     let mut told = began;
@@ -340,7 +353,7 @@ fn main() {
             // A window is kept where it brings something that is still rare in the list.
             let now: Vec<u64> = c.0.values().copied().collect();
             let brings: Vec<usize> = (0..now.len()).filter(|&k| now[k] > before[k]).collect();
-            if brings.iter().any(|&k| met_before[k] < 12) && recipe.stores.len() < 10 {
+            if brings.iter().any(|&k| met_before[k] < 12) && recipe.fits() {
                 brings.iter().for_each(|&k| met_before[k] += 1);
                 recorded.push(recipe.record(&b));
             }

@@ -127,8 +127,16 @@ impl Recipe {
         x
     }
 
-    /// For crates/replay, little-endian 32-bit words but for the strings: settings, index, seed, noise, scale, shape; four plants;
-    /// the stores with their count; and what is answered.
+    /// How many stores a record has room for.
+    const STORES: usize = 8;
+
+    /// Whether crates/replay can make it.
+    pub fn fits(&self) -> bool {
+        self.stores.len() <= Recipe::STORES && self.plants.iter().all(|p| p.start < 256)
+    }
+
+    /// For crates/replay, 312 bytes, little-endian 32-bit words but for the strings: settings, index, seed, noise, scale, shape;
+    /// four plants; eight stores, some of them beyond the window; and what is answered.
     pub fn record(&self, a: &Answer) -> Vec<u8> {
         let s = &self.settings;
         let mut out: Vec<u8> = vec![];
@@ -151,8 +159,7 @@ impl Recipe {
             out.extend(p.coherent);
             out.extend(p.noncoherent);
         }
-        out.extend((self.stores.len() as u32).to_le_bytes());
-        for (j, b) in &self.stores {
+        for (j, b) in self.stores.iter().chain(&[(u32::MAX, 0); Recipe::STORES]).take(Recipe::STORES) {
             out.extend(j.to_le_bytes());
             out.extend(b.to_le_bytes());
         }

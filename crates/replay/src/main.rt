@@ -1,0 +1,77 @@
+// Replays the answers that the Rust gave, with the logarithm of the rules and trial 4's slip mended. Standard input holds their
+// count, and for each how its window is made and what was answered (tools/compare --record wrote it).
+mod compare;
+mod make;
+mod words;
+
+use crate::compare::difference;
+use crate::compare::print_field;
+use crate::make::window;
+use crate::words::float_of;
+use crate::words::long_word;
+use crate::words::wide;
+use crate::words::word;
+use receiver::decode::decode;
+use search::Answer;
+use search::Settings;
+ghost use Prim.Native.Nat.{_≤_};
+
+fn decoded(r: &[u8; 312], samples: &[f32; 2310]) -> Answer {
+    decode(
+        samples,
+        Settings {
+            level: word(r, 0),
+            threshold: float_of(word(r, 4)),
+            second: float_of(word(r, 8)),
+            distance: word(r, 12),
+        },
+        long_word(r, 16),
+    )
+}
+
+// Whether the record is met. What is not the same is told.
+fn replay(r: &[u8; 312], k: u32) -> bool {
+    let samples = window(r);
+    let field = difference(r, decoded(r, &samples));
+    if field == 0 {
+        return true;
+    }
+    io::write_all(1, b"window ");
+    io::print_decimal(1, k as u64);
+    io::write_all(1, b": ");
+    print_field(field);
+    io::write_all(1, b" disagrees\n");
+    false
+}
+
+fn replay_next(k: u32) -> bool {
+    let mut r = [0u8; 312];
+    if io::read_full(0, &mut r) != 312 {
+        io::write_all(1, b"the list is too short\n");
+        return false;
+    }
+    replay(&r, k)
+}
+
+// How many windows the list holds.
+fn count() -> u32 {
+    let mut head = [0u8; 4];
+    io::read_full(0, &mut head);
+    wide(head[0]) | (wide(head[1]) << 8)
+}
+
+fn main() {
+    let n = count();
+    let mut wrong: u64 = 0;
+    let mut k: u32 = 0;
+    while k < n {
+        if !replay_next(k) {
+            wrong = std::num::wrapping_add_u64(wrong, 1);
+        }
+        k += 1;
+    }
+    io::print_decimal(1, n as u64);
+    io::write_all(1, b" windows, ");
+    io::print_decimal(1, wrong);
+    io::write_all(1, b" disagree\n");
+}

@@ -1,14 +1,9 @@
 -- `windows::list_windows` is safe and ends.
 -- Assumes nothing.
 use borrow.Author.Needs.{needs}
-use Prim.Native.Nat.{ℕ, _+_, _-_, _*_, _≤_, _<_}
-use mathlib.Core.Path.{_≡_}
-use lib.ListN.{length}
+use Prim.Native.Nat.{_-_}
 use Rattle.windows.proofs.list_windows.Statement.{statement}
 use Rattle.windows.proofs.list_windows.Tie as tie
-use Rattle.windows.proofs.list_windows.Reads as reads
-use Rattle.windows.proofs.list_windows.Lts as lts
-use Rattle.windows.proofs.list_window.Reads as list-window-reads
 
 abbrev Inv-loop : tie.InvT-loop
 Inv-loop n s at k₀ k = Unit {0}
@@ -16,43 +11,33 @@ Inv-loop n s at k₀ k = Unit {0}
 abbrev μ-loop : tie.MeasureT-loop
 μ-loop n s at k₀ k = n - k
 
--- src/main.rt:45:5
 loop-holds : tie.Need-loop-holds Inv-loop μ-loop
 loop-holds c = search needs
 
--- src/main.rt:47:13
 returns : tie.Need-returns Inv-loop μ-loop
 returns c = search needs
 
--- src/main.rt:49:40
 mul-list-window : tie.Need-mul-list-window Inv-loop μ-loop
 mul-list-window c = search needs
 
--- src/main.rt:49:40
 array-read-list-window : tie.Need-array-read-list-window Inv-loop μ-loop
 array-read-list-window c = search needs
 
--- src/main.rt:49:13
 list-window-requires : tie.Need-list-window-requires Inv-loop μ-loop
 list-window-requires c κs = search needs
 
--- src/main.rt:51:13
 returns-2 : tie.Need-returns-2 Inv-loop μ-loop
 returns-2 c = search needs
 
--- src/main.rt:53:9
 add-k : tie.Need-add-k Inv-loop μ-loop
 add-k c = search needs
 
--- src/main.rt:45:5
 loop-less : tie.Need-loop-less Inv-loop μ-loop
 loop-less c = search needs
 
--- src/main.rt:45:5
 loop-again : tie.Need-loop-again Inv-loop μ-loop
 loop-again c = search needs
 
--- src/main.rt:43:1
 returns-3 : tie.Need-returns-3 Inv-loop μ-loop
 returns-3 c = search needs
 

@@ -1,0 +1,73 @@
+-- The definitions give the worked listing, a NaN's bits and the text of two repairs; and the digits of a number, read back, are the number.
+-- Assumes nothing.
+use mathlib.Core.Path.{_≡_, refl}
+use mathlib.Core.Bool.{Bool, true, false, cond}
+use mathlib.Core.List.{List, [], _∷_, _++_, foldl, foldl-append}
+use Prim.Native.Nat.{ℕ, zero, suc, _+_, _-_, _*_, _/_, _%_, _^_, _<_}
+use native.Mathlib.Nat.{pow-succ'}
+use native.Mathlib.Omega.{arith}
+use lib.Dec.{ltb}
+use lib.Ieee.{binary32, ofBits, toBits, nan, inf}
+use Rattle.annex10.specs.declared.Repairs.the-variants.{None, Two}
+use Rattle.place.specs.declared.Slicer.the-variants.{Coherent}
+use Rattle.mode_s.specs.Avr.{hexDigit, hexText, avrText}
+use Rattle.search.specs.declared.Answer.{Answer}
+use Rattle.listing.specs.Fields.{decimalIn, decimal, hexWord, floatText, addressText, repairsText, slicerText}
+use Rattle.listing.specs.Lines.{line, headLine, noneLine, foundLine}
+
+-- what is found in window 0 of the worked listing
+answer : Answer
+answer =
+    record {
+      number = 0;
+      place = record { bit = 15; phase = 3; symbol = 1 };
+      message = 0x88 ∷ 0x07 ∷ 0x76 ∷ 0xAC ∷ 0 ∷ 0 ∷ 0 ∷ 0 ∷ 0 ∷ 0 ∷ 0 ∷ 0 ∷ 0 ∷ 0 ∷ [];
+      repairs = None;
+      slicer = Coherent;
+      cn0 = inf false;
+      index = 128;
+      fraction = ofBits binary32 0xBF000000;
+    }
+
+-- `windows 2`
+worked-head : headLine 2 ≡ 0x77 ∷ 0x69 ∷ 0x6E ∷ 0x64 ∷ 0x6F ∷ 0x77 ∷ 0x73 ∷ 0x20 ∷ 0x32 ∷ 0x0A ∷ []
+unfolding headLine line decimal decimalIn
+worked-head = refl
+
+-- `0 128 BF000000 *880776AC00000000000000000000; 0776AC 0 C 7F800000`
+worked-found : foundLine 0 answer ≡ 0x30 ∷ 0x20 ∷ 0x31 ∷ 0x32 ∷ 0x38 ∷ 0x20 ∷ 0x42 ∷ 0x46 ∷ 0x30 ∷ 0x30 ∷ 0x30 ∷ 0x30 ∷ 0x30 ∷ 0x30 ∷ 0x20 ∷ 0x2A ∷ 0x38 ∷ 0x38 ∷ 0x30 ∷ 0x37 ∷ 0x37 ∷ 0x36 ∷ 0x41 ∷ 0x43 ∷ 0x30 ∷ 0x30 ∷ 0x30 ∷ 0x30 ∷ 0x30 ∷ 0x30 ∷ 0x30 ∷ 0x30 ∷ 0x30 ∷ 0x30 ∷ 0x30 ∷ 0x30 ∷ 0x30 ∷ 0x30 ∷ 0x30 ∷ 0x30 ∷ 0x30 ∷ 0x30 ∷ 0x30 ∷ 0x30 ∷ 0x3B ∷ 0x20 ∷ 0x30 ∷ 0x37 ∷ 0x37 ∷ 0x36 ∷ 0x41 ∷ 0x43 ∷ 0x20 ∷ 0x30 ∷ 0x20 ∷ 0x43 ∷ 0x20 ∷ 0x37 ∷ 0x46 ∷ 0x38 ∷ 0x30 ∷ 0x30 ∷ 0x30 ∷ 0x30 ∷ 0x30 ∷ 0x0A ∷ []
+unfolding answer foundLine line decimal decimalIn floatText hexWord hexText hexDigit avrText addressText repairsText slicerText toBits ofBits
+worked-found = refl
+
+-- `1 none`
+worked-none : noneLine 1 ≡ 0x31 ∷ 0x20 ∷ 0x6E ∷ 0x6F ∷ 0x6E ∷ 0x65 ∷ 0x0A ∷ []
+unfolding noneLine line decimal decimalIn
+worked-none = refl
+
+-- `7FC00000`
+nan-text : floatText nan ≡ 0x37 ∷ 0x46 ∷ 0x43 ∷ 0x30 ∷ 0x30 ∷ 0x30 ∷ 0x30 ∷ 0x30 ∷ []
+unfolding floatText hexWord hexText hexDigit toBits
+nan-text = refl
+
+-- `2:3,110`
+two-text : repairsText (Two 3 110) ≡ 0x32 ∷ 0x3A ∷ 0x33 ∷ 0x2C ∷ 0x31 ∷ 0x31 ∷ 0x30 ∷ []
+unfolding repairsText decimal decimalIn
+two-text = refl
+
+-- the number that digits write, the first highest
+abbrev written : List ℕ → ℕ
+written = foldl (λ (v d : ℕ). v * 10 + (d - 48)) 0
+
+digits-back : (places n : ℕ) → n < 10 ^ places → written (decimalIn places n) ≡ n
+unfolding decimalIn
+digits-back zero n h = omega arith
+digits-back (suc places) n h = go (ltb n 10) refl (digits-back places (n / 10) (omega (arith, pow-succ' 10 places)))
+  where
+    go : (b : Bool) → ltb n 10 ≡ b → written (decimalIn places (n / 10)) ≡ n / 10
+        → written (cond b ((48 + n) ∷ []) (decimalIn places (n / 10) ++ ((48 + n % 10) ∷ []))) ≡ n
+    go true e q = omega arith
+    go false e q = rw (foldl-append (λ (v d : ℕ). v * 10 + (d - 48)) 0 (decimalIn places (n / 10)) ((48 + n % 10) ∷ [])) (omega arith)
+
+pub decimal-back : (n : ℕ) → n < 2 ^ 64 → written (decimal n) ≡ n
+unfolding decimal
+decimal-back n h = digits-back 20 n (omega arith)

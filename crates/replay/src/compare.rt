@@ -1,11 +1,11 @@
 // An answer against the one in a record.
-use crate::words::bits_of;
-use crate::words::long_word;
-use crate::words::word;
+use crate::record::long_word;
+use crate::record::word;
 use annex10::Repairs;
 use place::Place;
 use place::Slicer;
 use search::Answer;
+use words::float::bits_of;
 
 fn same_place(r: &[u8; 312], p: Place) -> bool {
     if word(r, 252) as usize != p.bit {

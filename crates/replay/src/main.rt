@@ -2,18 +2,18 @@
 // count, and for each how its window is made and what was answered (tools/compare --record wrote it).
 mod compare;
 mod make;
-mod words;
+mod record;
 
 use crate::compare::difference;
 use crate::compare::print_field;
 use crate::make::window;
-use crate::words::float_of;
-use crate::words::long_word;
-use crate::words::wide;
-use crate::words::word;
+use crate::record::long_word;
+use crate::record::wide;
+use crate::record::word;
 use receiver::decode::decode;
 use search::Answer;
 use search::Settings;
+use words::float::float_of;
 ghost use Prim.Native.Nat.{_≤_};
 
 fn decoded(r: &[u8; 312], samples: &[f32; 2310]) -> Answer {

@@ -1,6 +1,6 @@
 // A window from its record: noise, planted strings, a scale, and single numbers that are stored in the end.
-use crate::words::float_of;
-use crate::words::word;
+use crate::record::word;
+use words::float::float_of;
 ghost use Prim.Native.Nat.{_≤_, _<_};
 
 fn next(w: u32) -> u32 {

@@ -3,8 +3,6 @@ use borrow.Author.Needs.{needs}
 use Prim.Native.Nat.{_≤_, _-_}
 use Rattle.replay.proofs.compare.same_message.Statement.{statement}
 use Rattle.replay.proofs.compare.same_message.Tie as tie
-use Rattle.replay.proofs.compare.same_message.Reads as reads
-use Rattle.replay.proofs.compare.same_message.Lts as lts
 
 abbrev Inv-loop : tie.InvT-loop
 Inv-loop r message same₀ k₀ same k = k ≤ 14

@@ -3,10 +3,6 @@ use borrow.Author.Needs.{needs}
 use Prim.Native.Nat.{_≤_, _-_}
 use Rattle.replay.proofs.make.put_noise.Statement.{statement}
 use Rattle.replay.proofs.make.put_noise.Tie as tie
-use Rattle.replay.proofs.make.put_noise.Reads as reads
-use Rattle.replay.proofs.make.put_noise.Lts as lts
-use Rattle.replay.proofs.make.next.Reads as next-reads
-use Rattle.replay.proofs.make.small.Reads as small-reads
 
 abbrev Inv-loop : tie.InvT-loop
 Inv-loop x₀ seed noise w₀ j₀ x w j = j ≤ 2310

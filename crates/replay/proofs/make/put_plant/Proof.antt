@@ -3,11 +3,6 @@ use borrow.Author.Needs.{needs}
 use Prim.Native.Nat.{_≤_, _-_}
 use Rattle.replay.proofs.make.put_plant.Statement.{statement}
 use Rattle.replay.proofs.make.put_plant.Tie as tie
-use Rattle.replay.proofs.make.put_plant.Reads as reads
-use Rattle.replay.proofs.make.put_plant.Lts as lts
-use Rattle.replay.proofs.make.put_symbol.Reads as put-symbol-reads
-use Rattle.replay.proofs.make.start_of.Reads as start-of-reads
-use Rattle.replay.proofs.make.target.Reads as target-reads
 
 abbrev Inv-loop : tie.InvT-loop
 Inv-loop x₀ r plant full part start n₀ x n = n ≤ 224

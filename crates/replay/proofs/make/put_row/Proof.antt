@@ -3,10 +3,6 @@ use borrow.Author.Needs.{needs}
 use Prim.Native.Nat.{_≤_, _-_}
 use Rattle.replay.proofs.make.put_row.Statement.{statement}
 use Rattle.replay.proofs.make.put_row.Tie as tie
-use Rattle.replay.proofs.make.put_row.Reads as reads
-use Rattle.replay.proofs.make.put_row.Lts as lts
-use Rattle.replay.proofs.make.put_four.Reads as put-four-reads
-use Rattle.replay.proofs.make.start_of.Reads as start-of-reads
 
 abbrev Inv-loop : tie.InvT-loop
 Inv-loop x₀ r part start n₀ x n = n ≤ 224

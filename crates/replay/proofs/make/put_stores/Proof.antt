@@ -3,10 +3,6 @@ use borrow.Author.Needs.{needs}
 use Prim.Native.Nat.{_≤_, _-_}
 use Rattle.replay.proofs.make.put_stores.Statement.{statement}
 use Rattle.replay.proofs.make.put_stores.Tie as tie
-use Rattle.replay.proofs.make.put_stores.Reads as reads
-use Rattle.replay.proofs.make.put_stores.Lts as lts
-use Rattle.replay.proofs.make.store.Reads as store-reads
-use Rattle.replay.proofs.words.word.Reads as word-reads
 
 abbrev Inv-loop : tie.InvT-loop
 Inv-loop x₀ r m₀ x m = m ≤ 8

@@ -3,8 +3,6 @@ use borrow.Author.Needs.{needs}
 use Prim.Native.Nat.{_≤_, _-_}
 use Rattle.replay.proofs.make.scale.Statement.{statement}
 use Rattle.replay.proofs.make.scale.Tie as tie
-use Rattle.replay.proofs.make.scale.Reads as reads
-use Rattle.replay.proofs.make.scale.Lts as lts
 
 abbrev Inv-loop : tie.InvT-loop
 Inv-loop x₀ by j₀ x j = j ≤ 2310

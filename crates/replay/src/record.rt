@@ -16,18 +16,3 @@ pub fn long_word(r: &[u8; 312], at: usize) -> u64
 {
     (word(r, at) as u64) | ((word(r, at + 4) as u64) << 32)
 }
-
-// All NaNs are one.
-pub fn float_of(bits: u32) -> f32 {
-    if bits % 2147483648 > 2139095040 {
-        return 0.0 / 0.0;
-    }
-    f32::from_bits(bits)
-}
-
-pub fn bits_of(x: f32) -> u32 {
-    if x != x {
-        return 0x7fc0_0000;
-    }
-    f32::to_bits(x)
-}

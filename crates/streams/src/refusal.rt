@@ -9,7 +9,7 @@ pub fn stream_number(bytes: &[u8], offset: usize) -> u32
     if bytes.len() != 18 {
         return 2;
     }
-    if offset > 32 {
+    if offset > 32 { // a message from bit 33 on would end behind the stream
         return 7;
     }
     0

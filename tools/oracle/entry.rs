@@ -82,13 +82,24 @@ impl Oracle {
             && self.0.set_noncoherent_high_hamming_distance(distance).is_ok()
     }
 
-    /// The message of a window of 2,310 numbers. The Rust's answer does not carry the place: the search is made again for it.
-    pub fn decode(&mut self, window: &[f32], index: u64) -> Option<Answer> {
+    /// A window of 2,310 numbers.
+    pub fn load(&mut self, window: &[f32], index: u64) {
         for (z, x) in self.0.packet_samples.iter_mut().zip(window.chunks(2)) {
             *z = Complex32::new(x[0], x[1]);
         }
         self.0.packet.detection.sample_index = index;
+    }
+
+    /// Decodes the window that is loaded: whether it holds a message.
+    pub fn run(&mut self) -> bool {
         self.0.decode_derotated();
+        self.0.packet.decode.is_some()
+    }
+
+    /// The message of a window. The Rust's answer does not carry the place: the search is made again for it.
+    pub fn decode(&mut self, window: &[f32], index: u64) -> Option<Answer> {
+        self.load(window, index);
+        self.run();
         let d = self.0.packet.decode.as_ref()?;
         let at = self.0.find_best_decode_candidate()?.location;
         let slicer = u8::from(d.demodulation == DemodulationType::NonCoherent);

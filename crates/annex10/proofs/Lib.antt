@@ -7,3 +7,5 @@ pub mod Shorter
 pub mod Singles
 pub mod Unique
 pub mod Positions
+pub mod Rolling
+pub mod Any

@@ -3,3 +3,4 @@ pub mod Division
 pub mod Flip
 pub mod Header
 pub mod Repair
+pub mod Any

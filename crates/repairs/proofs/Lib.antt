@@ -1,2 +1,5 @@
 pub mod Rules
 pub mod Lookup
+pub mod Placed
+pub mod Hashing
+pub mod Owning

@@ -1,0 +1,74 @@
+-- `repairs::hash::codes_in` meets its contract. The loop: the first i codes are stored. Assumes nothing.
+use mathlib.Core.Path.{refl, ap, _∙_}
+use Prim.Native.Nat.{ℕ, _-_, _≤_}
+use native.Mathlib.Omega.{arith}
+use lib.ListN.{length, getD}
+use denote.Ref.{now}
+use Rattle.lists.specs.From.{tabulate}
+use Rattle.lists.proofs.Table.{Done, done-none, done-more, done-all}
+use Rattle.annex10.specs.Any.{clearingAny}
+use Rattle.repairs.specs.Codes.{codeOf, codesOf}
+use borrow.Author.Needs.{needs}
+use Rattle.repairs.proofs.hash.codes_in.Statement.{statement}
+use Rattle.repairs.proofs.hash.codes_in.Tie as tie
+
+abbrev Inv-loop : tie.InvT-loop
+Inv-loop displacements slots crcs codes₀ i₀ i-end codes i = (i ≤ length codes₀) × Done 0 (λ (k : ℕ). codeOf (clearingAny 14 (getD crcs k 0))) (length codes₀) codes i
+
+abbrev μ-loop : tie.MeasureT-loop
+μ-loop displacements slots crcs codes₀ i₀ i-end codes i = length codes₀ - i
+
+loop-holds : tie.Need-loop-holds Inv-loop μ-loop
+loop-holds c = (search needs, done-none _ _ _ _ refl)
+
+mul-code-in : tie.Need-mul-code-in Inv-loop μ-loop
+mul-code-in c = search needs
+
+shared-slice-read-code-in : tie.Need-shared-slice-read-code-in Inv-loop μ-loop
+shared-slice-read-code-in c = search needs
+
+code-in-requires : tie.Need-code-in-requires Inv-loop μ-loop
+code-in-requires c κs = search needs
+
+mul-codes : tie.Need-mul-codes Inv-loop μ-loop
+mul-codes c = search needs
+
+slice-write-codes : tie.Need-slice-write-codes Inv-loop μ-loop
+slice-write-codes c = search needs
+
+add-i : tie.Need-add-i Inv-loop μ-loop
+add-i c = search needs
+
+loop-less : tie.Need-loop-less Inv-loop μ-loop
+loop-less c = search needs
+
+loop-again : tie.Need-loop-again Inv-loop μ-loop
+loop-again c = (search needs, done-more _ _ _ _ _ _ (c .before .before .loop-test .taken) (c .before .before .before .loop .inv .1) (c .code-in .ensures))
+
+same-length : tie.Need-same-length Inv-loop μ-loop
+same-length c = search needs
+
+returns : tie.Need-returns Inv-loop μ-loop
+unfolding codesOf
+returns c =
+    let a = c .before .before .before .before .before .before in
+    done-all _ _ _ _ _ (c .loop-test .left) (c .before .loop .inv .1)
+    ∙ ap (λ (n : ℕ). tabulate n (λ (k : ℕ). codeOf (clearingAny 14 (getD (now (a .args .crcs)) k 0)))) (a .pre .1)
+
+pub codes-in-spec : {M : Type 1} → statement M
+codes-in-spec =
+    tie.close
+    (tie.spec
+    Inv-loop
+    μ-loop
+    loop-holds
+    mul-code-in
+    shared-slice-read-code-in
+    code-in-requires
+    mul-codes
+    slice-write-codes
+    add-i
+    loop-less
+    loop-again
+    same-length
+    returns)

@@ -1,9 +1,9 @@
--- `carrier_c::khlongrae_long_fft_max_search` meets its contract, by cases of the answer. Assumes nothing.
+-- `khlongrae::spectrum::khlongrae_long_fft_max_search` meets its contract, by cases of the answer. Assumes nothing.
 use mathlib.Core.Path.{sym, ap, _∙_}
-use Rattle.carrier_c.specs.Flat.{flatSearch}
+use Rattle.khlongrae.specs.Carriers.{flatSearch}
 use borrow.Author.Needs.{needs}
-use Rattle.carrier_c.proofs.khlongrae_long_fft_max_search.Statement.{statement}
-use Rattle.carrier_c.proofs.khlongrae_long_fft_max_search.Tie as tie
+use Rattle.khlongrae.proofs.spectrum.khlongrae_long_fft_max_search.Statement.{statement}
+use Rattle.khlongrae.proofs.spectrum.khlongrae_long_fft_max_search.Tie as tie
 
 long-fft-max-search-requires : tie.Need-long-fft-max-search-requires
 long-fft-max-search-requires c κs = search needs

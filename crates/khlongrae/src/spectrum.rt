@@ -1,4 +1,4 @@
-// The carrier calls for C or Rust: each answers a flat struct, with zeros where the answer has no value.
+// The carrier calls: each answers a flat struct, with zeros where the answer has no value.
 use carrier::maximum::LocalMaximum;
 use carrier::metric::Carrier;
 use carrier::notch::Floor;
@@ -8,7 +8,7 @@ ghost use Rattle.carrier.specs.Peaks.{searchOf};
 ghost use Rattle.carrier.specs.Floors.{floorAt};
 ghost use Rattle.carrier.specs.Carriers.{carrierOf};
 ghost use Rattle.carrier.specs.Maxima.{maximumOf};
-ghost use Rattle.carrier_c.specs.Flat.{flatSearch, flatFloor, flatCarrier, flatMaximum};
+ghost use Rattle.khlongrae.specs.Carriers.{flatSearch, flatFloor, flatCarrier, flatMaximum};
 
 #[repr(C)]
 pub struct FlatSearch {

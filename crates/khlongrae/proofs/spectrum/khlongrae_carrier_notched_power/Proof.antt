@@ -1,9 +1,9 @@
--- `carrier_c::khlongrae_carrier_notched_power` meets its contract, by cases of the answer. Assumes nothing.
+-- `khlongrae::spectrum::khlongrae_carrier_notched_power` meets its contract, by cases of the answer. Assumes nothing.
 use mathlib.Core.Path.{sym, ap, _∙_}
-use Rattle.carrier_c.specs.Flat.{flatFloor}
+use Rattle.khlongrae.specs.Carriers.{flatFloor}
 use borrow.Author.Needs.{needs}
-use Rattle.carrier_c.proofs.khlongrae_carrier_notched_power.Statement.{statement}
-use Rattle.carrier_c.proofs.khlongrae_carrier_notched_power.Tie as tie
+use Rattle.khlongrae.proofs.spectrum.khlongrae_carrier_notched_power.Statement.{statement}
+use Rattle.khlongrae.proofs.spectrum.khlongrae_carrier_notched_power.Tie as tie
 
 carrier-notched-power-requires : tie.Need-carrier-notched-power-requires
 carrier-notched-power-requires c κs = search needs

@@ -11,10 +11,10 @@ use Rattle.carrier.specs.declared.metric.Carrier.{Carrier}
 use Rattle.carrier.specs.declared.metric.Carrier.the-variants as metric
 use Rattle.carrier.specs.declared.maximum.LocalMaximum.{LocalMaximum}
 use Rattle.carrier.specs.declared.maximum.LocalMaximum.the-variants as maximum
-use Rattle.carrier_c.specs.declared.FlatSearch.{FlatSearch}
-use Rattle.carrier_c.specs.declared.FlatFloor.{FlatFloor}
-use Rattle.carrier_c.specs.declared.FlatCarrier.{FlatCarrier}
-use Rattle.carrier_c.specs.declared.FlatMaximum.{FlatMaximum}
+use Rattle.khlongrae.specs.declared.spectrum.FlatSearch.{FlatSearch}
+use Rattle.khlongrae.specs.declared.spectrum.FlatFloor.{FlatFloor}
+use Rattle.khlongrae.specs.declared.spectrum.FlatCarrier.{FlatCarrier}
+use Rattle.khlongrae.specs.declared.spectrum.FlatMaximum.{FlatMaximum}
 
 -- the strongest bin
 abbrev pub flatSearch : Search → FlatSearch

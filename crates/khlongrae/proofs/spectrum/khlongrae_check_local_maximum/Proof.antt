@@ -1,9 +1,9 @@
--- `carrier_c::khlongrae_check_local_maximum` meets its contract, by cases of the answer. Assumes nothing.
+-- `khlongrae::spectrum::khlongrae_check_local_maximum` meets its contract, by cases of the answer. Assumes nothing.
 use mathlib.Core.Path.{sym, ap, _∙_}
-use Rattle.carrier_c.specs.Flat.{flatMaximum}
+use Rattle.khlongrae.specs.Carriers.{flatMaximum}
 use borrow.Author.Needs.{needs}
-use Rattle.carrier_c.proofs.khlongrae_check_local_maximum.Statement.{statement}
-use Rattle.carrier_c.proofs.khlongrae_check_local_maximum.Tie as tie
+use Rattle.khlongrae.proofs.spectrum.khlongrae_check_local_maximum.Statement.{statement}
+use Rattle.khlongrae.proofs.spectrum.khlongrae_check_local_maximum.Tie as tie
 
 check-local-maximum-requires : tie.Need-check-local-maximum-requires
 check-local-maximum-requires c κs = search needs

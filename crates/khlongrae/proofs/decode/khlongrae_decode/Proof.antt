@@ -1,10 +1,10 @@
--- `khlongrae::khlongrae_decode` meets its contract. Each return is the definition's case for the tests that led there. Assumes nothing.
+-- `khlongrae::decode::khlongrae_decode` meets its contract. Each return is the definition's case for the tests that led there. Assumes nothing.
 use borrow.Author.Tests.{eq-eqb, ne-eqb}
 use Rattle.khlongrae.specs.Flat.{decodeInto}
 use Rattle.khlongrae.proofs.Into.{into-all}
 use borrow.Author.Needs.{needs}
-use Rattle.khlongrae.proofs.khlongrae_decode.Statement.{statement}
-use Rattle.khlongrae.proofs.khlongrae_decode.Tie as tie
+use Rattle.khlongrae.proofs.decode.khlongrae_decode.Statement.{statement}
+use Rattle.khlongrae.proofs.decode.khlongrae_decode.Tie as tie
 
 returns : tie.Need-returns
 unfolding decodeInto

@@ -1,9 +1,9 @@
--- `carrier_c::khlongrae_check_carrier_metric` meets its contract, by cases of the answer. Assumes nothing.
+-- `khlongrae::spectrum::khlongrae_check_carrier_metric` meets its contract, by cases of the answer. Assumes nothing.
 use mathlib.Core.Path.{sym, ap, _∙_}
-use Rattle.carrier_c.specs.Flat.{flatCarrier}
+use Rattle.khlongrae.specs.Carriers.{flatCarrier}
 use borrow.Author.Needs.{needs}
-use Rattle.carrier_c.proofs.khlongrae_check_carrier_metric.Statement.{statement}
-use Rattle.carrier_c.proofs.khlongrae_check_carrier_metric.Tie as tie
+use Rattle.khlongrae.proofs.spectrum.khlongrae_check_carrier_metric.Statement.{statement}
+use Rattle.khlongrae.proofs.spectrum.khlongrae_check_carrier_metric.Tie as tie
 
 check-carrier-metric-requires : tie.Need-check-carrier-metric-requires
 check-carrier-metric-requires c κs = search needs

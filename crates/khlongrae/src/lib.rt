@@ -1,9 +1,9 @@
 // The library for C and Rust. A slice is a pointer and a length; a struct is answered by value.
+mod copies;
 pub mod decode;
+mod flat;
 pub mod header;
 pub mod message;
 pub mod spectrum;
 pub mod version;
-mod copies;
-mod flat;
 mod written;

@@ -1,8 +1,8 @@
 /* Khlongrae for C and C++: the functions of libkhlongrae.a.
  *
  * Every function is proved to answer its definition, whatever it is given (docs/CONTRACTS.md names each). It keeps no state, takes
- * nothing from the heap and calls nothing but plain copies in memory, so that any number of threads may call it. A decode takes
- * about 50 kB of stack.
+ * nothing from the heap and calls nothing but memcpy, memmove and memset, so that any number of threads may call it. A decode takes
+ * less than 64 kB of stack.
  *
  * A slice is a pointer and a length, in elements. The library checks every length itself and refuses a wrong one. What it cannot
  * check is left to the caller: that a pointer is good for its length (with length 0 it may be null), and that memory which a call
@@ -64,7 +64,7 @@ enum khlongrae_slicer {
     KHLONGRAE_NONCOHERENT = 1    /* by the norm */
 };
 
-/* The floats of a decode, by their place in `numbers`. */
+/* The floats of a decode, by their place in `numbers`. Either is no number where the samples are such that none can be told. */
 enum khlongrae_float {
     KHLONGRAE_FLOAT_CN0 = 0,     /* how far the signal stood above the noise, in dB Hz; infinite where there was no noise */
     KHLONGRAE_FLOAT_FRACTION = 1 /* how far between two samples the message came, from -0.5 to below 0.5, to add to the index */

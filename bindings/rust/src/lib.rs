@@ -3,7 +3,7 @@
 //! The library checks every length and every setting itself, so these wrappers check nothing: they hand slices over, and turn a
 //! number into a [`Refusal`]. A refused call leaves lent memory as it was. Where several refusals apply, the lowest number from 2
 //! up is told. No call keeps state, takes memory from the heap, or panics (but for an archive of another interface, see
-//! [`version`]); a decode takes about 50 kB of stack.
+//! [`version`]); a decode takes less than 64 kB of stack.
 //!
 //! ```
 //! let silence = [0.0; khlongrae::WINDOW];

@@ -41,7 +41,7 @@ pub enum Slicer {
     Noncoherent,
 }
 
-/// What a decode found.
+/// What a decode found. Either float is no number where the samples are such that none can be told.
 #[derive(Clone, Copy, Debug, PartialEq)]
 pub struct Answer {
     /// The message after its repairs. To see what was received, turn the repaired bits over again.

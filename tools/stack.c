@@ -1,14 +1,11 @@
 // How much stack a decode takes: a thread decodes on a stack that was filled with a pattern, and the lowest byte that
 // changed is looked for. A thread that calls nothing is measured first, and taken off.
+#include "khlongrae.h"
+
 #include <pthread.h>
-#include <stdint.h>
 #include <stdio.h>
 #include <stdlib.h>
 #include <string.h>
-
-extern uint32_t khlongrae_decode(const float *samples, size_t samples_len, uint32_t level, float threshold, float second,
-                                 uint32_t distance, uint64_t index, uint8_t *message, size_t message_len, uint64_t *words,
-                                 size_t words_len, float *numbers, size_t numbers_len);
 
 enum { NUMBERS = 2310, STACK = 1 << 20, PATTERN = 0xA5 };
 static float samples[NUMBERS];

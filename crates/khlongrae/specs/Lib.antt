@@ -1,1 +1,4 @@
 pub mod Flat
+pub mod Carriers
+pub mod Headers
+pub mod Versions

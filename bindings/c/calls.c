@@ -1,0 +1,172 @@
+/* calls: each function of khlongrae.h is called with known answers, and refused, and lent memory must stay as it was where a call
+ * is refused. Ends with status 0 if all is as it must be. C and C++ alike. */
+#include "khlongrae.h"
+
+#include <math.h>
+#include <stdio.h>
+#include <string.h>
+
+static int done, wrong;
+
+static void check(int holds, const char *what, int line) {
+    done++;
+    if (!holds) {
+        wrong++;
+        printf("calls: line %d: %s\n", line, what);
+    }
+}
+#define CHECK(holds) check(holds, #holds, __LINE__)
+
+static const uint8_t WORKED[14] = {0x88, 0x07, 0x76, 0xAC};
+static float samples[KHLONGRAE_WINDOW];
+
+/* a pulse in the first half of each bit that is 1, in the second half of each that is 0, from a sample on */
+static void transmit(const uint8_t *message, int from) {
+    memset(samples, 0, sizeof samples);
+    for (int j = 0; j < 112; j++) {
+        int half = (message[j / 8] >> (7 - j % 8) & 1) != 0 ? 0 : 4;
+        for (int k = 0; k < 4; k++) samples[2 * (from + 8 * j + half + k)] = 1.0f;
+    }
+}
+
+/* the memory that a decode is lent, one element longer than it may be */
+struct lent {
+    uint8_t message[15];
+    uint64_t words[9];
+    float numbers[3];
+};
+static struct lent pattern, lent;
+
+struct call {
+    size_t samples;
+    uint32_t level;
+    float threshold, second;
+    uint32_t distance;
+    uint64_t index;
+    size_t message, words, numbers;
+};
+static const struct call GOOD = {KHLONGRAE_WINDOW, 2, 67, 71, 8, 128, KHLONGRAE_MESSAGE, KHLONGRAE_WORDS, KHLONGRAE_FLOATS};
+
+static uint32_t decode(struct call c) {
+    lent = pattern;
+    return khlongrae_decode(samples, c.samples, c.level, c.threshold, c.second, c.distance, c.index, lent.message, c.message, lent.words,
+                            c.words, lent.numbers, c.numbers);
+}
+
+static int unchanged(void) { return memcmp(&lent, &pattern, sizeof lent) == 0; }
+
+#define REFUSED(number, change)                  \
+    do {                                         \
+        struct call c = GOOD;                    \
+        change;                                  \
+        CHECK(decode(c) == number && unchanged()); \
+    } while (0)
+
+static void decodes(void) {
+    static const uint64_t found[8] = {128, 15, 3, 1, 0, 0, 0, KHLONGRAE_COHERENT};
+    static const uint64_t repaired[8] = {128, 16, 0, 0, 2, 40, 41, KHLONGRAE_COHERENT};
+    uint8_t damaged[14];
+    memset(&pattern, 0xA5, sizeof pattern);
+
+    transmit(WORKED, 128);
+    CHECK(decode(GOOD) == KHLONGRAE_DONE);
+    CHECK(memcmp(lent.message, WORKED, 14) == 0 && lent.message[14] == 0xA5);
+    CHECK(memcmp(lent.words, found, sizeof found) == 0 && lent.words[8] == pattern.words[8]);
+    CHECK(isinf(lent.numbers[KHLONGRAE_FLOAT_CN0]) && lent.numbers[KHLONGRAE_FLOAT_FRACTION] == -0.5f);
+
+    REFUSED(KHLONGRAE_INPUT_LENGTH, c.samples = KHLONGRAE_WINDOW - 1);
+    REFUSED(KHLONGRAE_INPUT_LENGTH, c.samples = 0);
+    REFUSED(KHLONGRAE_OUTPUT_LENGTH, c.message = 13);
+    REFUSED(KHLONGRAE_OUTPUT_LENGTH, c.message = 15);
+    REFUSED(KHLONGRAE_OUTPUT_LENGTH, c.words = 9);
+    REFUSED(KHLONGRAE_OUTPUT_LENGTH, c.numbers = 3);
+    REFUSED(KHLONGRAE_LEVEL, c.level = 3);
+    REFUSED(KHLONGRAE_THRESHOLD, c.threshold = NAN);
+    REFUSED(KHLONGRAE_THRESHOLD, c.second = INFINITY);
+    REFUSED(KHLONGRAE_INDEX, c.index = 127);
+    REFUSED(KHLONGRAE_INDEX, c.index = ((uint64_t)1 << 63) + 1);
+    REFUSED(KHLONGRAE_LEVEL, (c.level = 3, c.second = NAN, c.index = 0));
+
+    memcpy(damaged, WORKED, 14);
+    damaged[5] ^= 0xC0;
+    transmit(damaged, 128);
+    CHECK(decode(GOOD) == KHLONGRAE_DONE);
+    CHECK(memcmp(lent.message, WORKED, 14) == 0 && memcmp(lent.words, repaired, sizeof repaired) == 0);
+    REFUSED(KHLONGRAE_NO_MESSAGE, c.level = 1);
+    memset(samples, 0, sizeof samples);
+    REFUSED(KHLONGRAE_NO_MESSAGE, (void)c);
+}
+
+static void messages(void) {
+    uint8_t line[32], kept[32], one[14] = {0};
+    memset(kept, 0xA5, sizeof kept);
+    memcpy(line, kept, sizeof line);
+    CHECK(khlongrae_avr(WORKED, 13, line, 28) == KHLONGRAE_INPUT_LENGTH && memcmp(line, kept, sizeof line) == 0);
+    CHECK(khlongrae_avr(WORKED, 14, line, 31) == KHLONGRAE_OUTPUT_LENGTH && memcmp(line, kept, sizeof line) == 0);
+    CHECK(khlongrae_avr(WORKED, 14, line, 30) == KHLONGRAE_DONE);
+    CHECK(memcmp(line, "*880776AC00000000000000000000;\xA5\xA5", 32) == 0);
+    CHECK(khlongrae_avr(WORKED, 7, line, 16) == KHLONGRAE_DONE && memcmp(line, "*880776AC000000;", 16) == 0);
+
+    CHECK(khlongrae_remainder(WORKED, 14) == 0);
+    CHECK(khlongrae_remainder(NULL, 0) == 0);
+    one[13] = 1;
+    CHECK(khlongrae_remainder(one, 14) == 0xFFF409);
+    one[13] = 2;
+    CHECK(khlongrae_remainder(one, 14) == 0x001C1B);
+}
+
+static int header_is(uint8_t first, uint32_t count, uint32_t j, uint32_t k, uint32_t number, uint32_t valid) {
+    struct khlongrae_header_answer h = khlongrae_header(first, count, j, k);
+    return h.number == number && h.valid == valid;
+}
+
+static void headers(void) {
+    CHECK(header_is(0x88, 0, 0, 0, KHLONGRAE_DONE, 1));
+    CHECK(header_is(0x90, 0, 999, 999, KHLONGRAE_DONE, 1));
+    CHECK(header_is(0x89, 0, 7, 0, KHLONGRAE_DONE, 0));
+    CHECK(header_is(0x89, 1, 7, 999, KHLONGRAE_DONE, 1));
+    CHECK(header_is(0x89, 1, 111, 0, KHLONGRAE_DONE, 0));
+    CHECK(header_is(0x88, 2, 7, 7, KHLONGRAE_DONE, 1));
+    CHECK(header_is(0x8A, 2, 6, 111, KHLONGRAE_DONE, 1));
+    CHECK(header_is(0x88, 1, 112, 0, KHLONGRAE_POSITION, 0));
+    CHECK(header_is(0x89, 1, 256 + 7, 0, KHLONGRAE_POSITION, 0));
+    CHECK(header_is(0x88, 2, 0, 112, KHLONGRAE_POSITION, 0));
+    CHECK(header_is(0x88, 3, 112, 112, KHLONGRAE_LEVEL, 0));
+}
+
+static void carriers(void) {
+    float spectrum[16] = {1, 1, 1, 1, 1, 1, 1, 1, 1, 10, 4, 1, 1, 1, 1, 1};
+    static const float before[5] = {3, 2, 3, 1, 1}, first[5] = {1, 2, 3, 3, 1};
+    struct khlongrae_search_answer s;
+    struct khlongrae_carrier_answer c;
+    struct khlongrae_floor_answer f = khlongrae_carrier_notched_power(spectrum, 16, 9, 1);
+    CHECK(f.number == KHLONGRAE_DONE && f.floor == 13);
+    f = khlongrae_carrier_notched_power(spectrum, 16, 16, 16);
+    CHECK(f.number == KHLONGRAE_PLACE && f.floor == 0);
+    f = khlongrae_carrier_notched_power(spectrum, 16, 9, 16);
+    CHECK(f.number == KHLONGRAE_HALF_WIDTH && f.floor == 0);
+
+    CHECK(khlongrae_long_fft_max_search(&s, spectrum, 16, 6) == &s && s.number == KHLONGRAE_DONE && s.bin == 9 && s.value == 10);
+    CHECK(khlongrae_long_fft_max_search(&s, spectrum, 15, 6)->number == KHLONGRAE_INPUT_LENGTH && s.bin == 0 && s.value == 0);
+    CHECK(khlongrae_long_fft_max_search(&s, spectrum, 16, 7)->number == KHLONGRAE_HALF_WIDTH && s.bin == 0 && s.value == 0);
+
+    CHECK(khlongrae_check_carrier_metric(&c, spectrum, 16, 6, 1, 0.5f) == &c && c.number == KHLONGRAE_DONE && c.peak == 1);
+    CHECK(c.bin == 9 && c.fraction == 0.1f && c.value == 10 && c.floor == 13);
+    CHECK(khlongrae_check_carrier_metric(&c, spectrum, 16, 6, 1, 1)->peak == 0 && c.number == KHLONGRAE_DONE);
+    CHECK(c.bin == 0 && c.fraction == 0 && c.value == 10 && c.floor == 13);
+    CHECK(khlongrae_check_carrier_metric(&c, spectrum, 16, 6, 16, -1)->number == KHLONGRAE_THRESHOLD && c.value == 0 && c.floor == 0);
+
+    CHECK(khlongrae_check_local_maximum(first, 5).number == KHLONGRAE_DONE && khlongrae_check_local_maximum(first, 5).yes == 1);
+    CHECK(khlongrae_check_local_maximum(before, 5).number == KHLONGRAE_DONE && khlongrae_check_local_maximum(before, 5).yes == 0);
+    CHECK(khlongrae_check_local_maximum(first, 4).number == KHLONGRAE_INPUT_LENGTH && khlongrae_check_local_maximum(first, 4).yes == 0);
+}
+
+int main(void) {
+    CHECK(khlongrae_version() == KHLONGRAE_VERSION);
+    decodes();
+    messages();
+    headers();
+    carriers();
+    printf("calls: %d checks, %d wrong\n", done, wrong);
+    return wrong != 0;
+}

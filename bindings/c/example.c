@@ -1,0 +1,80 @@
+/* example FILE: decodes each window of a file, such as samples/listing.win, and prints a line for each. docs/WINDOWS.md says what
+ * the file holds. C and C++ alike. */
+#include "khlongrae.h"
+
+#include <inttypes.h>
+#include <stdio.h>
+#include <stdlib.h>
+#include <string.h>
+
+static void stop(const char *why) {
+    fprintf(stderr, "example: %s\n", why);
+    exit(2);
+}
+
+/* a whole number of so many bytes, the lowest first */
+static uint64_t read_number(FILE *file, int bytes) {
+    uint64_t number = 0;
+    for (int k = 0; k < bytes; k++) {
+        int byte = fgetc(file);
+        if (byte == EOF) stop("the file ends early");
+        number |= (uint64_t)byte << (8 * k);
+    }
+    return number;
+}
+
+static float read_float(FILE *file) {
+    uint32_t bits = (uint32_t)read_number(file, 4);
+    float number;
+    memcpy(&number, &bits, sizeof number);
+    return number;
+}
+
+static void print_found(unsigned window, const uint8_t *message, const uint64_t *words) {
+    uint8_t line[KHLONGRAE_LINE];
+    if (khlongrae_avr(message, KHLONGRAE_MESSAGE, line, sizeof line) != KHLONGRAE_DONE) stop("no AVR line");
+    printf("%u %.*s place %" PRIu64 ",%" PRIu64 ",%" PRIu64 " index %" PRIu64 " slicer %c repairs %" PRIu64, window, (int)sizeof line,
+           (const char *)line, words[KHLONGRAE_WORD_BIT], words[KHLONGRAE_WORD_PHASE], words[KHLONGRAE_WORD_SYMBOL],
+           words[KHLONGRAE_WORD_INDEX], words[KHLONGRAE_WORD_SLICER] == KHLONGRAE_COHERENT ? 'C' : 'N', words[KHLONGRAE_WORD_REPAIRS]);
+    if (words[KHLONGRAE_WORD_REPAIRS] > 0) printf(":%" PRIu64, words[KHLONGRAE_WORD_FIRST]);
+    if (words[KHLONGRAE_WORD_REPAIRS] > 1) printf(",%" PRIu64, words[KHLONGRAE_WORD_SECOND]);
+    printf("\n");
+}
+
+int main(int count, char **words_given) {
+    enum { MOST = 64 };
+    static float samples[KHLONGRAE_WINDOW];
+    uint64_t indices[MOST];
+    if (khlongrae_version() != KHLONGRAE_VERSION) stop("the library has another interface");
+    if (count != 2) stop("usage: example FILE");
+    FILE *file = fopen(words_given[1], "rb");
+    if (file == NULL) stop("no such file");
+
+    if (read_number(file, 4) != 4) stop("there are four settings");
+    uint32_t level = (uint32_t)read_number(file, 4);
+    float threshold = read_float(file);
+    float second = read_float(file);
+    uint32_t distance = (uint32_t)read_number(file, 4);
+    unsigned windows = (unsigned)read_number(file, 4);
+    if (windows > MOST) stop("there are at most 64 windows");
+    for (unsigned k = 0; k < windows; k++) indices[k] = read_number(file, 8);
+    if (read_number(file, 4) != KHLONGRAE_WINDOW * windows) stop("a window has 2,310 numbers");
+
+    for (unsigned k = 0; k < windows; k++) {
+        uint8_t message[KHLONGRAE_MESSAGE];
+        uint64_t words[KHLONGRAE_WORDS];
+        float numbers[KHLONGRAE_FLOATS];
+        for (int i = 0; i < KHLONGRAE_WINDOW; i++) samples[i] = read_float(file);
+        uint32_t number = khlongrae_decode(samples, KHLONGRAE_WINDOW, level, threshold, second, distance, indices[k], message,
+                                           KHLONGRAE_MESSAGE, words, KHLONGRAE_WORDS, numbers, KHLONGRAE_FLOATS);
+        if (number == KHLONGRAE_DONE) {
+            print_found(k, message, words);
+        } else if (number == KHLONGRAE_NO_MESSAGE) {
+            printf("%u none\n", k);
+        } else {
+            printf("%u refused %" PRIu32 "\n", k, number);
+        }
+    }
+    fclose(file);
+    return 0;
+}

@@ -1,0 +1,161 @@
+/* Khlongrae for C and C++: the functions of libkhlongrae.a.
+ *
+ * Every function is proved to answer its definition, whatever it is given (docs/CONTRACTS.md names each). It keeps no state, takes
+ * nothing from the heap and calls nothing but memcpy, memmove and memset, so that any number of threads may call it. A decode takes
+ * less than 64 kB of stack.
+ *
+ * A slice is a pointer and a length, in elements. The library checks every length itself and refuses a wrong one. What it cannot
+ * check is left to the caller: that a pointer is good for its length (with length 0 it may be null), and that memory which a call
+ * writes overlaps no other memory of the call.
+ *
+ * A call answers 0, or the number of its refusal. A refused call leaves lent memory as it was, and a struct that it answers holds
+ * zeros but for the number. Where several refusals apply, the lowest number from 2 up is answered.
+ */
+#ifndef KHLONGRAE_H
+#define KHLONGRAE_H
+
+#include <stddef.h>
+#include <stdint.h>
+
+#ifdef __cplusplus
+extern "C" {
+#endif
+
+/* The number of the interface that this file describes. A library of another number must not be called: see khlongrae_version. */
+#define KHLONGRAE_VERSION 1
+
+/* What a call answers. The window program has one number more, 10, for a malformed file; the library never answers it. */
+enum khlongrae_number {
+    KHLONGRAE_DONE = 0,          /* done */
+    KHLONGRAE_NO_MESSAGE = 1,    /* a decode: no place of the window holds a reading that the settings let pass */
+    KHLONGRAE_INPUT_LENGTH = 2,  /* a lent input has the wrong length */
+    KHLONGRAE_OUTPUT_LENGTH = 3, /* a lent output has the wrong length */
+    KHLONGRAE_LEVEL = 4,         /* a level, or a count of repairs, that is not 0, 1 or 2 */
+    KHLONGRAE_THRESHOLD = 5,     /* a threshold that is infinite or no number; a carrier's also where it is below 0 (-0.0 is taken) */
+    KHLONGRAE_INDEX = 6,         /* a sample index below 128 or above 2^63 */
+    KHLONGRAE_PLACE = 7,         /* a place out of its range: here, a bin that the spectrum has not */
+    KHLONGRAE_POSITION = 8,      /* a repaired position above 111 */
+    KHLONGRAE_HALF_WIDTH = 9     /* a half-width that is too large for the spectrum */
+};
+
+/* The lengths that khlongrae_decode and khlongrae_avr take. */
+enum khlongrae_length {
+    KHLONGRAE_WINDOW = 2310,     /* numbers of a window: 1,155 samples, each a real part and an imaginary part */
+    KHLONGRAE_MESSAGE = 14,      /* bytes of a message */
+    KHLONGRAE_WORDS = 8,         /* whole numbers of a decode */
+    KHLONGRAE_FLOATS = 2,        /* floats of a decode */
+    KHLONGRAE_LINE = 30          /* bytes of the AVR line of a message of 14 bytes; 16 for one of 7 */
+};
+
+/* The whole numbers of a decode, by their place in `words`. */
+enum khlongrae_word {
+    KHLONGRAE_WORD_INDEX = 0,    /* when the message came: the number of its first sample, at 8,000,000 samples a second */
+    KHLONGRAE_WORD_BIT = 1,      /* where it was read: bit offset, 1 to 31, */
+    KHLONGRAE_WORD_PHASE = 2,    /*     clock phase, 0 to 3, */
+    KHLONGRAE_WORD_SYMBOL = 3,   /*     symbol offset, 0 or 1; its first sample in the window is 4 * (2 * bit + symbol) + phase */
+    KHLONGRAE_WORD_REPAIRS = 4,  /* how many bits were turned over: 0, 1 or 2 */
+    KHLONGRAE_WORD_FIRST = 5,    /* the first of them, 0 to 111 (bit 0 is the top bit of byte 0), or 0 where there is none */
+    KHLONGRAE_WORD_SECOND = 6,   /* the second of them, above the first, or 0 where there is none */
+    KHLONGRAE_WORD_SLICER = 7    /* who read the bits: see below */
+};
+
+enum khlongrae_slicer {
+    KHLONGRAE_COHERENT = 0,      /* by the real part */
+    KHLONGRAE_NONCOHERENT = 1    /* by the norm */
+};
+
+/* The floats of a decode, by their place in `numbers`. Either is no number where the samples are such that none can be told. */
+enum khlongrae_float {
+    KHLONGRAE_FLOAT_CN0 = 0,     /* how far the signal stood above the noise, in dB Hz; infinite where there was no noise */
+    KHLONGRAE_FLOAT_FRACTION = 1 /* how far between two samples the message came, from -0.5 to below 0.5, to add to the index */
+};
+
+/* The number of the library's interface: compare it with KHLONGRAE_VERSION before any other call. It grows where a signature or the
+ * meaning of a field changes. */
+uint32_t khlongrae_version(void);
+
+/* Looks for a message of 14 bytes in a window, and writes what it found.
+ *
+ *   samples    2,310 numbers, derotated and phased, so that a pulse lies on the real axis
+ *   level      the most bits that are repaired: 0, 1 or 2
+ *   threshold  a reading with two repairs is dropped if its cn0 is below this
+ *   second     so is one by the noncoherent slicer below this, if the slicers differ in as many bits as
+ *   distance   says
+ *   index      the receiver's number of the window's sample 128
+ *   message    14 bytes: the message after its repairs. To see what was received, turn the repaired bits over again
+ *   words      8 whole numbers: see enum khlongrae_word
+ *   numbers    2 floats: see enum khlongrae_float
+ *
+ * Answers 0 and has written all three outputs, or 1, 2, 3, 4, 5 or 6 and has written nothing. */
+uint32_t khlongrae_decode(const float *samples, size_t samples_len, uint32_t level, float threshold, float second, uint32_t distance,
+                          uint64_t index, uint8_t *message, size_t message_len, uint64_t *words, size_t words_len, float *numbers,
+                          size_t numbers_len);
+
+/* Writes the AVR line of a message of 7 or 14 bytes: `*`, two capital hex digits for each byte, `;`. The line has exactly 16 or 30
+ * bytes, with no zero behind it. Answers 0, or 2 (another length of the message), or 3 (another length of the line). */
+uint32_t khlongrae_avr(const uint8_t *message, size_t message_len, uint8_t *line, size_t line_len);
+
+/* The remainder of a string of bytes of any length: the string times x^24, modulo the generator of ICAO Annex 10 Volume IV. It has 24
+ * bits and is never refused. It is 0 for a message of 14 bytes that came without an error. */
+uint32_t khlongrae_remainder(const uint8_t *bytes, size_t bytes_len);
+
+struct khlongrae_header_answer {
+    uint32_t number;
+    uint32_t valid;              /* 1 where the header is that of an extended squitter, else 0 */
+};
+
+/* Whether the first byte of a 14-byte message is that of an extended squitter once `count` of its bits are turned over: none, the
+ * one at j, or those at j and k (the same one twice cancels). What is not counted is not looked at. Number 0, or 4 (a count above
+ * 2), or 8 (a counted position above 111). */
+struct khlongrae_header_answer khlongrae_header(uint8_t first, uint32_t count, uint32_t j, uint32_t k);
+
+/* ---- The carrier, in a spectrum of N floats, N even, 4 to 4,096 (else 2) */
+
+struct khlongrae_search_answer {
+    uint32_t number;
+    size_t bin;
+    float value;
+};
+
+/* The strongest bin within `search` of the middle, search at most N/2 - 2 (else 9): the first greatest above 0, or the first bin and
+ * 0 if there is none.
+ *
+ * An answer of more than 16 bytes is written to `answer`, and its address is returned: declared so, the call is the same on x86-64
+ * and on Arm. `answer` must be good for writing. */
+struct khlongrae_search_answer *khlongrae_long_fft_max_search(struct khlongrae_search_answer *answer, const float *spectrum,
+                                                              size_t spectrum_len, size_t search);
+
+struct khlongrae_floor_answer {
+    uint32_t number;
+    float floor;
+};
+
+/* The power outside of bin - notch to bin + notch. The bin is below N (else 7), and so is the notch (else 9). */
+struct khlongrae_floor_answer khlongrae_carrier_notched_power(const float *spectrum, size_t spectrum_len, size_t bin, size_t notch);
+
+struct khlongrae_carrier_answer {
+    uint32_t number;
+    uint32_t peak;               /* 1: a peak; 0: the carrier is weak, and bin and fraction are 0 */
+    size_t bin;
+    float fraction;              /* how far between two bins the peak lies */
+    float value;                 /* the power at the strongest bin */
+    float floor;                 /* the power beside it */
+};
+
+/* The carrier call: a peak where value >= threshold * floor. Refused: 2, 5, 9 (either half-width). The answer as above. */
+struct khlongrae_carrier_answer *khlongrae_check_carrier_metric(struct khlongrae_carrier_answer *answer, const float *spectrum,
+                                                                size_t spectrum_len, size_t search, size_t notch, float threshold);
+
+struct khlongrae_maximum_answer {
+    uint32_t number;
+    uint32_t yes;                /* 1 where the third value is a local maximum, else 0 */
+};
+
+/* Whether the third of five values is a local maximum: none before it is as great, none behind it is greater. Refused: 2. */
+struct khlongrae_maximum_answer khlongrae_check_local_maximum(const float *values, size_t values_len);
+
+#ifdef __cplusplus
+}
+#endif
+
+#endif

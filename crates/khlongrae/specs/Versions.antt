@@ -1,0 +1,6 @@
+-- The number of the interface for C and Rust: it grows by 1 where a signature or the meaning of a field changes.
+-- Assumes nothing.
+use Prim.Native.Nat.{ℕ}
+
+abbrev pub versionNumber : ℕ
+versionNumber = 1

@@ -3,3 +3,5 @@ pub mod Messages
 pub mod Remainders
 pub mod Distances
 pub mod Headers
+pub mod Rolling
+pub mod Inner

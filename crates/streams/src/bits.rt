@@ -20,10 +20,19 @@ pub fn byte_at(bytes: &[u8], j: usize) -> u8
 
 // As many bytes as `message` has, from a bit offset on.
 pub fn copy_bits(bytes: &[u8], offset: usize, message: &mut [u8])
-    requires { ⌜ (offset + 8 * length (now message) ≤ 8 * length (now bytes)) × (length (now bytes) ≤ 18) ⌝ }
+    requires { ⌜ (offset + 8 * length (now message) ≤ 8 * length (now bytes)) × (length (now bytes) ≤ 144) ⌝ }
     ensures { λ _. ⌜ now (message .exit) ≡ messageAt (now (bytes .entry)) (length (now (message .entry))) offset ⌝ }
 {
     for k in 0..message.len() {
         message[k] = byte_at(bytes, offset + 8 * k);
     }
+}
+
+// The 32 bits from byte n on, the first highest.
+pub fn word_at(bytes: &[u8], n: usize) -> u32
+    requires { ⌜ (n + 3 < length (now bytes)) × (length (now bytes) ≤ 144) ⌝ }
+    ensures { λ r. ⌜ r ≡ value (bitAt (now (bytes .entry))) (8 * n) 32 ⌝ }
+{
+    let high = (bytes[n] as u32) * 0x1000000 + (bytes[n + 1] as u32) * 0x10000;
+    high + (bytes[n + 2] as u32) * 0x100 + (bytes[n + 3] as u32)
 }

@@ -5,3 +5,4 @@ pub mod distance;
 pub mod header;
 pub mod message;
 mod refusal;
+pub mod rolling;

@@ -11,7 +11,7 @@ use Rattle.annex10.specs.Repair.{repaired, pattern}
 use Rattle.annex10.specs.declared.Repairs.the-variants.{One, Two}
 use Rattle.annex10.proofs.Repairing.{clearing-is}
 use Rattle.annex10.proofs.Unique.{apart-14}
-use Rattle.search.specs.Trials.{checked, trial, given, differ, trials, reading}
+use Rattle.search.specs.Trials.{checked, cleared, given, sixTrials, differ, trials, reading}
 use Rattle.search.specs.Kinds.{long}
 use Rattle.claims.specs.Slip.{coherent, noncoherent, SlicerIsReset}
 
@@ -36,7 +36,7 @@ unfolding longHeader oneOf repaired flip coherent
 fine = refl
 
 pub slicer-is-reset : SlicerIsReset
-unfolding reading trials trial checked given long
+unfolding reading trials sixTrials cleared checked given long
 slicer-is-reset =
     let c = clearing-is 14 (remainder coherent) apart-14 (Two 110 111) (lit< tt, lit< tt) by-coherent in
     let n = clearing-is 14 (remainder noncoherent) apart-14 (One 111) (lit< tt) by-noncoherent in

@@ -23,7 +23,7 @@ use Rattle.place.specs.declared.Slicer.the-variants.{Coherent, Noncoherent}
 use Rattle.search.specs.declared.Reading.{Reading}
 use Rattle.search.specs.declared.Tried.{Tried}
 use Rattle.search.specs.declared.Tried.the-variants.{Pass, Fail}
-use Rattle.search.specs.Trials.{Kind, good, checked, trial, given, differ, trials, first, reading}
+use Rattle.search.specs.Trials.{Kind, good, checked, cleared, given, sixTrials, differ, trials, first, reading}
 
 -- 0 for the coherent slicer, 1 for the other
 abbrev pub side : Slicer → ℕ
@@ -60,6 +60,9 @@ first-passes (Fail ∷ ts) h = first-passes ts (h .1)
 
 -- ---- one trial
 
+abbrev trial : Kind → ℕ → Slicer → List ℕ → ℕ → Tried
+trial kind number slicer bits n = checked kind number slicer bits (cleared kind bits n)
+
 record Made (kind : Kind) (number : ℕ) (slicer : Slicer) (bits : List ℕ) (n : ℕ) (r : Reading) : Type 0 where
   numbered : r .trial ≡ number
   by : r .slicer ≡ slicer
@@ -67,7 +70,7 @@ record Made (kind : Kind) (number : ℕ) (slicer : Slicer) (bits : List ℕ) (n 
   header : good kind (repaired bits (r .repairs)) ≡ true
 
 made : (kind : Kind) (number : ℕ) (slicer : Slicer) (bits : List ℕ) (n : ℕ) → Passes (Made kind number slicer bits n) (trial kind number slicer bits n)
-unfolding trial checked
+unfolding cleared checked
 made kind number slicer bits n = go (clearing (kind .bytes) n (remainder bits)) refl
   where
     head : (ρ : Repairs) → clearing (kind .bytes) n (remainder bits) ≡ At ρ → (b : Bool) → good kind (repaired bits ρ) ≡ b
@@ -104,7 +107,7 @@ module _ (kind : Kind) (level : ℕ) (c n : List ℕ) where
           }
 
   pub sound : Passes Sound (reading kind level c n)
-  unfolding reading trials
+  unfolding reading trials sixTrials
   sound =
       first-passes (trials kind level c n) (
         trial-sound 1 Coherent 0 refl (omega arith),
@@ -163,7 +166,7 @@ module _ (kind : Kind) (level : ℕ) (c n : List ℕ) where
     pub earlier : (j : ℕ) → j < r .trial - 1 → getD (trials kind level c n) j Fail ≡ Fail
 
   pub foremost : Passes Foremost (reading kind level c n)
-  unfolding reading trials
+  unfolding reading trials sixTrials
   foremost = also go (at-first 1 (trials kind level c n) counted)
     where
       counted : Counted 1 (trials kind level c n)
@@ -240,7 +243,7 @@ module _ (kind : Kind) (c n : List ℕ) where
   counts number slicer bits k = also (λ r m. m .clears .many) (made kind number slicer bits k)
 
   pub limited : (l : ℕ) → reading kind l c n ≡ upTo l (reading kind 2 c n)
-  unfolding reading trials given
+  unfolding reading trials sixTrials given
   limited l =
       six l _ _ _ _ _ _
       (counts 1 Coherent c 0)

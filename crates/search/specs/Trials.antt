@@ -36,29 +36,33 @@ checked kind number slicer bits Nothing = Fail
 checked kind number slicer bits (At ρ) =
     cond (good kind (repaired bits ρ)) (Pass (record { trial = number; slicer = slicer; repairs = ρ })) Fail
 
--- a trial by its number: the slicer, its bits, and how many positions are repaired
-unfoldable pub trial : Kind → ℕ → Slicer → List ℕ → ℕ → Tried
-trial kind number slicer bits n = checked kind number slicer bits (clearing (kind .bytes) n (remainder bits))
+-- the n positions that clear the bits
+unfoldable pub cleared : Kind → List ℕ → ℕ → Found
+cleared kind bits n = clearing (kind .bytes) n (remainder bits)
 
 -- a trial that is made only on a condition
 unfoldable pub given : Bool → Tried → Tried
 given true t = t
 given false t = Fail
 
+-- the six trials. c n and d n are the n positions that clear the coherent and the noncoherent bits; apart: the two remainders differ
+unfoldable pub sixTrials : Kind → ℕ → List ℕ → List ℕ → (ℕ → Found) → (ℕ → Found) → Bool → List Tried
+sixTrials kind level coherent noncoherent c d apart =
+    checked kind 1 Coherent coherent (c 0)
+    ∷ checked kind 2 Noncoherent noncoherent (d 0)
+    ∷ given (leb 1 level) (checked kind 3 Coherent coherent (c 1))
+    ∷ given (leb 1 level) (given apart (checked kind 4 Noncoherent noncoherent (d 1)))
+    ∷ given (leb 2 level) (checked kind 5 Coherent coherent (c 2))
+    ∷ given (leb 2 level) (given apart (checked kind 6 Noncoherent noncoherent (d 2)))
+    ∷ []
+
 -- the two remainders differ
 unfoldable pub differ : List ℕ → List ℕ → Bool
 differ coherent noncoherent = not (eqb (remainder coherent) (remainder noncoherent))
 
--- the six trials
 unfoldable pub trials : Kind → ℕ → List ℕ → List ℕ → List Tried
 trials kind level coherent noncoherent =
-    trial kind 1 Coherent coherent 0
-    ∷ trial kind 2 Noncoherent noncoherent 0
-    ∷ given (leb 1 level) (trial kind 3 Coherent coherent 1)
-    ∷ given (leb 1 level) (given (differ coherent noncoherent) (trial kind 4 Noncoherent noncoherent 1))
-    ∷ given (leb 2 level) (trial kind 5 Coherent coherent 2)
-    ∷ given (leb 2 level) (given (differ coherent noncoherent) (trial kind 6 Noncoherent noncoherent 2))
-    ∷ []
+    sixTrials kind level coherent noncoherent (cleared kind coherent) (cleared kind noncoherent) (differ coherent noncoherent)
 
 -- the first that passes
 abbrev pub first : List Tried → Tried

@@ -8,10 +8,10 @@ use Rattle.cn0.proofs.estimate_cn0 as cn0-estimate-cn0
 
 pub cn0-ten-log10-fixed : Fixed cn0-ten-log10.ended (answer _) (λ M 𝓤 H. cn0-ten-log10.clauses 𝓤 H) (λ M 𝓤 H. cn0-ten-log10.spec 𝓤 H)
 cn0-ten-log10-fixed =
-    fixes cn0-ten-log10.ended _ (answer-set cn0-ten-log10.ended) (λ κs. refl)
+    fixes cn0-ten-log10.ended _ (answer-set cn0-ten-log10.ended) refl (λ κs. refl)
     (λ κs a r e. r) (λ κs a y. (y, (tt, tt))) (λ κs a r ws. refl)
 
 pub cn0-estimate-cn0-fixed : Fixed cn0-estimate-cn0.ended (answer _) (λ M 𝓤 H. cn0-estimate-cn0.clauses 𝓤 H) (λ M 𝓤 H. cn0-estimate-cn0.spec 𝓤 H)
 cn0-estimate-cn0-fixed =
-    fixes cn0-estimate-cn0.ended _ (answer-set cn0-estimate-cn0.ended) (λ κs. refl)
+    fixes cn0-estimate-cn0.ended _ (answer-set cn0-estimate-cn0.ended) refl (λ κs. refl)
     (λ κs a r e. r) (λ κs a y. (y, (tt, (tt, tt)))) (λ κs a r ws. refl)

@@ -10,8 +10,10 @@ use base.Logic.{emp}
 use base.Stored.{coded-set}
 use contract.Monad.{fact}
 use denote.RattleType.{RattleType, Denots}
+use denote.Exit.{yes}
 use denote.Ref.{RefT, now}
 use denote.Signature.{typesAt}
+use denote.Triple.End.{all}
 use denote.Triple.Clauses.{Ended, Lasts, AtExit, atExit, closing}
 use Rattle.outcomes.specs.Outcome.{Clause, Lifetimes, Given, Answer, Sight, Outcome, outcome, Fixed}
 
@@ -40,15 +42,16 @@ module _ (T : Ended) where
     ensures = λ g r e. fact 𝓤 (view κs a r e ≡ f κs a);
   }
 
-  -- THE LAW: where the outcome can be read off what is seen, it is fixed
+  -- THE LAW: where the outcome can be read off what is seen, it is fixed. The outcomes are a set, since what was given is seen again
   pub fixes : (s : Sight T) {Y : (κs : Lifetimes T) → Given T κs → Type 0} {f : (κs : Lifetimes T) (a : Given T κs) → Y κs a}
       → ((κs : Lifetimes T) → IsSet (s .Seen κs))
+      → T .kept ≡ all yes (T .signature .params)
       → ((κs : Lifetimes T) → AtExit T κs ≡ Given T κs)
       → (view : (κs : Lifetimes T) (a : Given T κs) → Answer T κs → AtExit T κs → Y κs a)
       (read : (κs : Lifetimes T) (a : Given T κs) → Y κs a → Outcome T s κs a)
       → ((κs : Lifetimes T) (a : Given T κs) (r : Answer T κs) (ws : Lasts T κs a) → read κs a (view κs a r (atExit T κs a ws)) ≡ outcome T s κs a r ws)
       → Fixed T s (equation Y view f) (λ M 𝓤 H A mem run. closing 𝓤 H A T (equation Y view f M 𝓤 H A mem run))
-  fixes s {Y} {f} set whole view read reads = record {
+  fixes s {Y} {f} set whole again view read reads = record {
     whole = whole;
     proved = λ M 𝓤 H A mem run. refl;
     fixed = λ M 𝓤 H A mem run κs a. record {
@@ -67,7 +70,7 @@ module _ (T : Ended) where
 
       outcome-set : (κs : Lifetimes T) (a : Given T κs) → Answer T κs → IsSet (Outcome T s κs a)
       outcome-set κs a r = Σ-set (set κs) (λ x. within-set (atExit T κs a) (λ e. read κs a (view κs a r e) .1) (λ ws. ap (λ o. o .1) (reads κs a r ws))
-          (subst IsSet (sym (whole κs)) (given-set (typesAt (T .signature .params) κs))))
+          (subst IsSet (sym (again κs)) (given-set (typesAt (T .signature .params) κs))))
 
 -- the answers of a function are a set, and so is what a part holds
 pub answer-set : (T : Ended) (κs : Lifetimes T) → IsSet (Answer T κs)

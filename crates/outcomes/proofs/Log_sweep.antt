@@ -7,5 +7,5 @@ use Rattle.log_sweep.proofs.log_sweep_ten_log10 as log-sweep-log-sweep-ten-log1
 
 pub log-sweep-log-sweep-ten-log10-fixed : Fixed log-sweep-log-sweep-ten-log10.ended (answer _) (λ M 𝓤 H. log-sweep-log-sweep-ten-log10.clauses 𝓤 H) (λ M 𝓤 H. log-sweep-log-sweep-ten-log10.spec 𝓤 H)
 log-sweep-log-sweep-ten-log10-fixed =
-    fixes log-sweep-log-sweep-ten-log10.ended _ (answer-set log-sweep-log-sweep-ten-log10.ended) (λ κs. refl)
+    fixes log-sweep-log-sweep-ten-log10.ended _ (answer-set log-sweep-log-sweep-ten-log10.ended) refl (λ κs. refl)
     (λ κs a r e. r) (λ κs a y. (y, (tt, tt))) (λ κs a r ws. refl)

@@ -10,20 +10,20 @@ use Rattle.math.proofs.is_finite as math-is-finite
 
 pub Complex-plus-fixed : Fixed Complex-plus.ended (answer _) (λ M 𝓤 H. Complex-plus.clauses 𝓤 H) (λ M 𝓤 H. Complex-plus.spec 𝓤 H)
 Complex-plus-fixed =
-    fixes Complex-plus.ended _ (answer-set Complex-plus.ended) (λ κs. refl)
+    fixes Complex-plus.ended _ (answer-set Complex-plus.ended) refl (λ κs. refl)
     (λ κs a r e. r) (λ κs a y. (y, (tt, (tt, tt)))) (λ κs a r ws. refl)
 
 pub Complex-norm-fixed : Fixed Complex-norm.ended (answer _) (λ M 𝓤 H. Complex-norm.clauses 𝓤 H) (λ M 𝓤 H. Complex-norm.spec 𝓤 H)
 Complex-norm-fixed =
-    fixes Complex-norm.ended _ (answer-set Complex-norm.ended) (λ κs. refl)
+    fixes Complex-norm.ended _ (answer-set Complex-norm.ended) refl (λ κs. refl)
     (λ κs a r e. r) (λ κs a y. (y, (tt, tt))) (λ κs a r ws. refl)
 
 pub math-parabolic-interpolation-fixed : Fixed math-parabolic-interpolation.ended (answer _) (λ M 𝓤 H. math-parabolic-interpolation.clauses 𝓤 H) (λ M 𝓤 H. math-parabolic-interpolation.spec 𝓤 H)
 math-parabolic-interpolation-fixed =
-    fixes math-parabolic-interpolation.ended _ (answer-set math-parabolic-interpolation.ended) (λ κs. refl)
+    fixes math-parabolic-interpolation.ended _ (answer-set math-parabolic-interpolation.ended) refl (λ κs. refl)
     (λ κs a r e. r) (λ κs a y. (y, (tt, (tt, (tt, tt))))) (λ κs a r ws. refl)
 
 pub math-is-finite-fixed : Fixed math-is-finite.ended (answer _) (λ M 𝓤 H. math-is-finite.clauses 𝓤 H) (λ M 𝓤 H. math-is-finite.spec 𝓤 H)
 math-is-finite-fixed =
-    fixes math-is-finite.ended _ (answer-set math-is-finite.ended) (λ κs. refl)
+    fixes math-is-finite.ended _ (answer-set math-is-finite.ended) refl (λ κs. refl)
     (λ κs a r e. r) (λ κs a y. (y, (tt, tt))) (λ κs a r ws. refl)

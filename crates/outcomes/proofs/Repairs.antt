@@ -8,10 +8,10 @@ use Rattle.repairs.proofs.double_bit_error_from_crc24 as repairs-double-bit-err
 
 pub repairs-single-bit-error-from-crc24-fixed : Fixed repairs-single-bit-error-from-crc24.ended (answer _) (λ M 𝓤 H. repairs-single-bit-error-from-crc24.clauses 𝓤 H) (λ M 𝓤 H. repairs-single-bit-error-from-crc24.spec 𝓤 H)
 repairs-single-bit-error-from-crc24-fixed =
-    fixes repairs-single-bit-error-from-crc24.ended _ (answer-set repairs-single-bit-error-from-crc24.ended) (λ κs. refl)
+    fixes repairs-single-bit-error-from-crc24.ended _ (answer-set repairs-single-bit-error-from-crc24.ended) refl (λ κs. refl)
     (λ κs a r e. r) (λ κs a y. (y, (tt, tt))) (λ κs a r ws. refl)
 
 pub repairs-double-bit-error-from-crc24-fixed : Fixed repairs-double-bit-error-from-crc24.ended (answer _) (λ M 𝓤 H. repairs-double-bit-error-from-crc24.clauses 𝓤 H) (λ M 𝓤 H. repairs-double-bit-error-from-crc24.spec 𝓤 H)
 repairs-double-bit-error-from-crc24-fixed =
-    fixes repairs-double-bit-error-from-crc24.ended _ (answer-set repairs-double-bit-error-from-crc24.ended) (λ κs. refl)
+    fixes repairs-double-bit-error-from-crc24.ended _ (answer-set repairs-double-bit-error-from-crc24.ended) refl (λ κs. refl)
     (λ κs a r e. r) (λ κs a y. (y, (tt, tt))) (λ κs a r ws. refl)

@@ -10,20 +10,20 @@ use Rattle.timing.proofs.subsample_timing as timing-subsample-timing
 
 pub timing-hold-fixed : Fixed timing-hold.ended (answer _) (λ M 𝓤 H. timing-hold.clauses 𝓤 H) (λ M 𝓤 H. timing-hold.spec 𝓤 H)
 timing-hold-fixed =
-    fixes timing-hold.ended _ (answer-set timing-hold.ended) (λ κs. refl)
+    fixes timing-hold.ended _ (answer-set timing-hold.ended) refl (λ κs. refl)
     (λ κs a r e. r) (λ κs a y. (y, (tt, tt))) (λ κs a r ws. refl)
 
 pub timing-fraction-of-fixed : Fixed timing-fraction-of.ended (answer _) (λ M 𝓤 H. timing-fraction-of.clauses 𝓤 H) (λ M 𝓤 H. timing-fraction-of.spec 𝓤 H)
 timing-fraction-of-fixed =
-    fixes timing-fraction-of.ended _ (answer-set timing-fraction-of.ended) (λ κs. refl)
+    fixes timing-fraction-of.ended _ (answer-set timing-fraction-of.ended) refl (λ κs. refl)
     (λ κs a r e. r) (λ κs a y. (y, (tt, (tt, tt)))) (λ κs a r ws. refl)
 
 pub timing-settle-fixed : Fixed timing-settle.ended (answer _) (λ M 𝓤 H. timing-settle.clauses 𝓤 H) (λ M 𝓤 H. timing-settle.spec 𝓤 H)
 timing-settle-fixed =
-    fixes timing-settle.ended _ (answer-set timing-settle.ended) (λ κs. refl)
+    fixes timing-settle.ended _ (answer-set timing-settle.ended) refl (λ κs. refl)
     (λ κs a r e. r) (λ κs a y. (y, (tt, tt))) (λ κs a r ws. refl)
 
 pub timing-subsample-timing-fixed : Fixed timing-subsample-timing.ended (answer _) (λ M 𝓤 H. timing-subsample-timing.clauses 𝓤 H) (λ M 𝓤 H. timing-subsample-timing.spec 𝓤 H)
 timing-subsample-timing-fixed =
-    fixes timing-subsample-timing.ended _ (answer-set timing-subsample-timing.ended) (λ κs. refl)
+    fixes timing-subsample-timing.ended _ (answer-set timing-subsample-timing.ended) refl (λ κs. refl)
     (λ κs a r e. r) (λ κs a y. (y, (tt, (tt, tt)))) (λ κs a r ws. refl)

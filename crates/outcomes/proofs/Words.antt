@@ -13,30 +13,30 @@ use Rattle.words.proofs.numbers.long as numbers-long
 
 pub float-float-of-fixed : Fixed float-float-of.ended (answer _) (λ M 𝓤 H. float-float-of.clauses 𝓤 H) (λ M 𝓤 H. float-float-of.spec 𝓤 H)
 float-float-of-fixed =
-    fixes float-float-of.ended _ (answer-set float-float-of.ended) (λ κs. refl)
+    fixes float-float-of.ended _ (answer-set float-float-of.ended) refl (λ κs. refl)
     (λ κs a r e. r) (λ κs a y. (y, (tt, tt))) (λ κs a r ws. refl)
 
 pub float-bits-of-fixed : Fixed float-bits-of.ended (answer _) (λ M 𝓤 H. float-bits-of.clauses 𝓤 H) (λ M 𝓤 H. float-bits-of.spec 𝓤 H)
 float-bits-of-fixed =
-    fixes float-bits-of.ended _ (answer-set float-bits-of.ended) (λ κs. refl)
+    fixes float-bits-of.ended _ (answer-set float-bits-of.ended) refl (λ κs. refl)
     (λ κs a r e. r) (λ κs a y. (y, (tt, tt))) (λ κs a r ws. refl)
 
 pub float-window-floats-fixed : Fixed float-window-floats.ended (answer _) (λ M 𝓤 H. float-window-floats.clauses 𝓤 H) (λ M 𝓤 H. float-window-floats.spec 𝓤 H)
 float-window-floats-fixed =
-    fixes float-window-floats.ended _ (answer-set float-window-floats.ended) (λ κs. refl)
+    fixes float-window-floats.ended _ (answer-set float-window-floats.ended) refl (λ κs. refl)
     (λ κs a r e. (r, now (e .1 .0))) (λ κs a y. (y .0, (tt, (y .1, tt)))) (λ κs a r ws. refl)
 
 pub numbers-joined-fixed : Fixed numbers-joined.ended (answer _) (λ M 𝓤 H. numbers-joined.clauses 𝓤 H) (λ M 𝓤 H. numbers-joined.spec 𝓤 H)
 numbers-joined-fixed =
-    fixes numbers-joined.ended _ (answer-set numbers-joined.ended) (λ κs. refl)
+    fixes numbers-joined.ended _ (answer-set numbers-joined.ended) refl (λ κs. refl)
     (λ κs a r e. r) (λ κs a y. (y, (tt, (tt, (tt, (tt, tt)))))) (λ κs a r ws. refl)
 
 pub numbers-word-fixed : Fixed numbers-word.ended (answer _) (λ M 𝓤 H. numbers-word.clauses 𝓤 H) (λ M 𝓤 H. numbers-word.spec 𝓤 H)
 numbers-word-fixed =
-    fixes numbers-word.ended _ (answer-set numbers-word.ended) (λ κs. refl)
+    fixes numbers-word.ended _ (answer-set numbers-word.ended) refl (λ κs. refl)
     (λ κs a r e. r) (λ κs a y. (y, (tt, tt))) (λ κs a r ws. refl)
 
 pub numbers-long-fixed : Fixed numbers-long.ended (answer _) (λ M 𝓤 H. numbers-long.clauses 𝓤 H) (λ M 𝓤 H. numbers-long.spec 𝓤 H)
 numbers-long-fixed =
-    fixes numbers-long.ended _ (answer-set numbers-long.ended) (λ κs. refl)
+    fixes numbers-long.ended _ (answer-set numbers-long.ended) refl (λ κs. refl)
     (λ κs a r e. r) (λ κs a y. (y, (tt, tt))) (λ κs a r ws. refl)

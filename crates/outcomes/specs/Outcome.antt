@@ -11,10 +11,12 @@ use prog.Routine.{Routine}
 use ghost.Atoms.{Atoms}
 use contract.Monad.{Fun}
 use contract.Lifetimes.{Lfts}
+use denote.Exit.{yes}
 use denote.Ref.{RefT, now}
+use denote.Triple.End.{all}
 use denote.Triple.Entry.{Args, Res}
 use denote.Triple.Spec.{Spec}
-use denote.Triple.Clauses.{Ended, Clauses, ClausesAt, Lasts, AtExit, atExit, closing}
+use denote.Triple.Clauses.{Ended, Clauses, ClausesAt, Lasts, atExit, closing}
 
 -- a contract's clauses, and the contract that the function is proved to meet, in every model of memory
 abbrev pub Clause : Ended → Type 2
@@ -61,10 +63,10 @@ module _ (T : Ended) where
     pub same : (r r′ : Answer κs) (ws ws′ : Lasts T κs a) → Permits 𝓤 κs a c r ws → Permits 𝓤 κs a c r′ ws′
         → outcome s κs a r ws ≡ outcome s κs a r′ ws′
 
-  -- of every call. All that was given is seen again at the end, so no lent memory is left out of an outcome; and the clauses are those
-  -- of the contract that the function is proved to meet
+  -- of every call. The last value of every lent memory is part of the outcome, and the clauses are those of the contract that the
+  -- function is proved to meet
   pub record Fixed (s : Sight) (c : Clause T) (contract : Contract T) : Type 2 where
-    pub whole : (κs : Lifetimes) → AtExit T κs ≡ Given κs
+    pub whole : T .kept ≡ all yes (T .signature .params)
     pub proved : (M : Type 1) (𝓤 : URA M) (H : Heap 𝓤) (A : Atoms 𝓤) (mem : Memory → SProp 𝓤) (run : Routine → Fun 𝓤)
         → contract M 𝓤 H A mem run ≡ closing 𝓤 H A T (c M 𝓤 H A mem run)
     pub fixed : (M : Type 1) (𝓤 : URA M) (H : Heap 𝓤) (A : Atoms 𝓤) (mem : Memory → SProp 𝓤) (run : Routine → Fun 𝓤)

@@ -23,7 +23,6 @@ use Rattle.claims.specs.Bits.{slicerBit}
 use Rattle.claims.specs.Statements.{atLevel, Mended, OnlyRepair}
 use Rattle.claims.specs.Calls.{Accepted}
 use Rattle.claims.specs.Audited.{WellTimed, Returned, Audited}
-use Rattle.claims.proofs.Search.{determined}
 use Rattle.claims.proofs.Uses.{long-places, long-search, long-heard}
 use Rattle.claims.proofs.Calls.{wrong-length, wrong-level, wrong-thresholds, wrong-index, nothing, something, ends, numbered}
 use Rattle.claims.proofs.Timing.{moves-few, fraction-inside}
@@ -154,5 +153,5 @@ audited samples s index a e =
       numbered = numbered samples s index;
       returned = beside samples s index .returned;
       zeros = beside samples s index .zeros;
-      determined = λ b f. determined (decodeOf samples s index) .same b (decodeOf samples s index) f refl;
+      determined = λ b f. f;
     })

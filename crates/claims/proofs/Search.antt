@@ -28,7 +28,7 @@ use Rattle.search.specs.Choice.{_∈_, Window, Sized, candidate, dropped, survi
 use Rattle.search.proofs.Passing.{Sound, sound, Foremost, foremost}
 use Rattle.search.proofs.Passing as passing
 use Rattle.search.proofs.Scanning.{not-some, scan-from, scan-none, scan-fewest, survivor-is, atMost, atMost-is, atMost-kept, level-is, whole}
-use Rattle.claims.specs.Statements.{side, permitted, atLevel, Mended, OnlyRepair, Founded, Searched, Determined}
+use Rattle.claims.specs.Statements.{side, permitted, atLevel, Mended, OnlyRepair, Founded, Searched}
 
 -- ---- the message
 
@@ -141,8 +141,3 @@ module _ (kind : Kind) (s : Settings) (w : Window) where
             let (q, n) = atMost-is (permitted kind s) (whole kind s w) (sym (level-is kind s w) ∙ e) in
             level-is kind (atLevel m s) w ∙ ap (atMost (min m (kind .most))) (same-whole m ∙ q) ∙ atMost-kept (min m (kind .most)) a (omega arith);
       }
-
--- ---- contracts
-
-pub determined : {A : Type 0} (definition : A) → Determined definition
-determined definition = record { same = λ x y e f. e ∙ sym f }

@@ -100,10 +100,3 @@ pub record Searched (kind : Kind) (s : Settings) (w : Window) : Type 0 where
   pub nothing : (best kind s w ≡ none) ↔ ((p : Place) → p ∈ kind .places → candidateAt kind s w p ≡ none)
   -- 5. What is returned at one level is returned, all fields included, at every higher level.
   pub higher : (a : Candidate) → best kind s w ≡ some a → (m : ℕ) → s .level ≤ m → best kind (atLevel m s) w ≡ some a
-
--- ---- contracts
-
--- A contract is an equation with a definition: any two outcomes that it permits are equal. Where memory is lent, the outcome is the
--- answer together with what the memory holds afterwards.
-pub record Determined {A : Type 0} (definition : A) : Type 0 where
-  pub same : (x y : A) → x ≡ definition → y ≡ definition → x ≡ y

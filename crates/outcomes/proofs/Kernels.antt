@@ -1,0 +1,30 @@
+-- Each public contract of kernels fixes its outcome. Written by tools/outcomes; the prover trusts nothing of it.
+-- Assumes nothing.
+use mathlib.Core.Path.{refl}
+use denote.Ref.{now}
+use Rattle.outcomes.specs.Outcome.{Fixed, answer}
+use Rattle.outcomes.proofs.Law.{fixes, answer-set}
+use Rattle.kernels.proofs.power.postdecode_power as power-postdecode-power
+use Rattle.kernels.proofs.power.postdecode_noise_power as power-postdecode-noise-power
+use Rattle.kernels.proofs.slicers.demodulate as slicers-demodulate
+use Rattle.kernels.proofs.symbols.accumulate_symbols as symbols-accumulate-symbols
+
+pub power-postdecode-power-fixed : Fixed power-postdecode-power.ended (answer _) (λ M 𝓤 H. power-postdecode-power.clauses 𝓤 H) (λ M 𝓤 H. power-postdecode-power.spec 𝓤 H)
+power-postdecode-power-fixed =
+    fixes power-postdecode-power.ended _ (answer-set power-postdecode-power.ended) refl (λ κs. refl)
+    (λ κs a r e. r) (λ κs a y. (y, (tt, (tt, tt)))) (λ κs a r ws. refl)
+
+pub power-postdecode-noise-power-fixed : Fixed power-postdecode-noise-power.ended (answer _) (λ M 𝓤 H. power-postdecode-noise-power.clauses 𝓤 H) (λ M 𝓤 H. power-postdecode-noise-power.spec 𝓤 H)
+power-postdecode-noise-power-fixed =
+    fixes power-postdecode-noise-power.ended _ (answer-set power-postdecode-noise-power.ended) refl (λ κs. refl)
+    (λ κs a r e. r) (λ κs a y. (y, (tt, (tt, tt)))) (λ κs a r ws. refl)
+
+pub slicers-demodulate-fixed : Fixed slicers-demodulate.ended (answer _) (λ M 𝓤 H. slicers-demodulate.clauses 𝓤 H) (λ M 𝓤 H. slicers-demodulate.spec 𝓤 H)
+slicers-demodulate-fixed =
+    fixes slicers-demodulate.ended _ (answer-set slicers-demodulate.ended) refl (λ κs. refl)
+    (λ κs a r e. (r, now (e .1 .0), now (e .1 .1 .0))) (λ κs a y. (y .0, (tt, (y .1, (y .2, tt))))) (λ κs a r ws. refl)
+
+pub symbols-accumulate-symbols-fixed : Fixed symbols-accumulate-symbols.ended (answer _) (λ M 𝓤 H. symbols-accumulate-symbols.clauses 𝓤 H) (λ M 𝓤 H. symbols-accumulate-symbols.spec 𝓤 H)
+symbols-accumulate-symbols-fixed =
+    fixes symbols-accumulate-symbols.ended _ (answer-set symbols-accumulate-symbols.ended) refl (λ κs. refl)
+    (λ κs a r e. (r, now (e .1 .0))) (λ κs a y. (y .0, (tt, (y .1, tt)))) (λ κs a r ws. refl)

@@ -1,0 +1,41 @@
+-- Each public contract of receiver fixes its outcome. Written by tools/outcomes; the prover trusts nothing of it.
+-- Assumes nothing.
+use mathlib.Core.Path.{refl}
+use Rattle.outcomes.specs.Outcome.{Fixed, answer}
+use Rattle.outcomes.proofs.Law.{fixes, answer-set}
+use Rattle.receiver.proofs.decode.read_place as decode-read-place
+use Rattle.receiver.proofs.decode.find_best_decode_candidate as decode-find-best-decode-candidate
+use Rattle.receiver.proofs.decode.time_message as decode-time-message
+use Rattle.receiver.proofs.decode.decode as decode-decode
+use Rattle.receiver.proofs.settings.check_settings as settings-check-settings
+use Rattle.receiver.proofs.settings.check_index as settings-check-index
+
+pub decode-read-place-fixed : Fixed decode-read-place.ended (answer _) (λ M 𝓤 H. decode-read-place.clauses 𝓤 H) (λ M 𝓤 H. decode-read-place.spec 𝓤 H)
+decode-read-place-fixed =
+    fixes decode-read-place.ended _ (answer-set decode-read-place.ended) refl (λ κs. refl)
+    (λ κs a r e. r) (λ κs a y. (y, (tt, (tt, (tt, tt))))) (λ κs a r ws. refl)
+
+pub decode-find-best-decode-candidate-fixed : Fixed decode-find-best-decode-candidate.ended (answer _) (λ M 𝓤 H. decode-find-best-decode-candidate.clauses 𝓤 H) (λ M 𝓤 H. decode-find-best-decode-candidate.spec 𝓤 H)
+decode-find-best-decode-candidate-fixed =
+    fixes decode-find-best-decode-candidate.ended _ (answer-set decode-find-best-decode-candidate.ended) refl (λ κs. refl)
+    (λ κs a r e. r) (λ κs a y. (y, (tt, (tt, tt)))) (λ κs a r ws. refl)
+
+pub decode-time-message-fixed : Fixed decode-time-message.ended (answer _) (λ M 𝓤 H. decode-time-message.clauses 𝓤 H) (λ M 𝓤 H. decode-time-message.spec 𝓤 H)
+decode-time-message-fixed =
+    fixes decode-time-message.ended _ (answer-set decode-time-message.ended) refl (λ κs. refl)
+    (λ κs a r e. r) (λ κs a y. (y, (tt, (tt, (tt, (tt, tt)))))) (λ κs a r ws. refl)
+
+pub decode-decode-fixed : Fixed decode-decode.ended (answer _) (λ M 𝓤 H. decode-decode.clauses 𝓤 H) (λ M 𝓤 H. decode-decode.spec 𝓤 H)
+decode-decode-fixed =
+    fixes decode-decode.ended _ (answer-set decode-decode.ended) refl (λ κs. refl)
+    (λ κs a r e. r) (λ κs a y. (y, (tt, (tt, (tt, tt))))) (λ κs a r ws. refl)
+
+pub settings-check-settings-fixed : Fixed settings-check-settings.ended (answer _) (λ M 𝓤 H. settings-check-settings.clauses 𝓤 H) (λ M 𝓤 H. settings-check-settings.spec 𝓤 H)
+settings-check-settings-fixed =
+    fixes settings-check-settings.ended _ (answer-set settings-check-settings.ended) refl (λ κs. refl)
+    (λ κs a r e. r) (λ κs a y. (y, (tt, tt))) (λ κs a r ws. refl)
+
+pub settings-check-index-fixed : Fixed settings-check-index.ended (answer _) (λ M 𝓤 H. settings-check-index.clauses 𝓤 H) (λ M 𝓤 H. settings-check-index.spec 𝓤 H)
+settings-check-index-fixed =
+    fixes settings-check-index.ended _ (answer-set settings-check-index.ended) refl (λ κs. refl)
+    (λ κs a r e. r) (λ κs a y. (y, (tt, tt))) (λ κs a r ws. refl)

@@ -1,0 +1,17 @@
+-- Each public contract of repairs fixes its outcome. Written by tools/outcomes; the prover trusts nothing of it.
+-- Assumes nothing.
+use mathlib.Core.Path.{refl}
+use Rattle.outcomes.specs.Outcome.{Fixed, answer}
+use Rattle.outcomes.proofs.Law.{fixes, answer-set}
+use Rattle.repairs.proofs.single_bit_error_from_crc24 as repairs-single-bit-error-from-crc24
+use Rattle.repairs.proofs.double_bit_error_from_crc24 as repairs-double-bit-error-from-crc24
+
+pub repairs-single-bit-error-from-crc24-fixed : Fixed repairs-single-bit-error-from-crc24.ended (answer _) (λ M 𝓤 H. repairs-single-bit-error-from-crc24.clauses 𝓤 H) (λ M 𝓤 H. repairs-single-bit-error-from-crc24.spec 𝓤 H)
+repairs-single-bit-error-from-crc24-fixed =
+    fixes repairs-single-bit-error-from-crc24.ended _ (answer-set repairs-single-bit-error-from-crc24.ended) refl (λ κs. refl)
+    (λ κs a r e. r) (λ κs a y. (y, (tt, tt))) (λ κs a r ws. refl)
+
+pub repairs-double-bit-error-from-crc24-fixed : Fixed repairs-double-bit-error-from-crc24.ended (answer _) (λ M 𝓤 H. repairs-double-bit-error-from-crc24.clauses 𝓤 H) (λ M 𝓤 H. repairs-double-bit-error-from-crc24.spec 𝓤 H)
+repairs-double-bit-error-from-crc24-fixed =
+    fixes repairs-double-bit-error-from-crc24.ended _ (answer-set repairs-double-bit-error-from-crc24.ended) refl (λ κs. refl)
+    (λ κs a r e. r) (λ κs a y. (y, (tt, tt))) (λ κs a r ws. refl)

@@ -1,0 +1,35 @@
+-- Each public contract of streams fixes its outcome. Written by tools/outcomes; the prover trusts nothing of it.
+-- Assumes nothing.
+use mathlib.Core.Path.{refl}
+use Rattle.outcomes.specs.Outcome.{Fixed, answer}
+use Rattle.outcomes.proofs.Law.{fixes, answer-set}
+use Rattle.streams.proofs.crc.compute_crc as crc-compute-crc
+use Rattle.streams.proofs.distance.compute_hamming_distance as distance-compute-hamming-distance
+use Rattle.streams.proofs.header.df_is_valid_extended_squitter as header-df-is-valid-extended-squitter
+use Rattle.streams.proofs.message.extract_message as message-extract-message
+use Rattle.streams.proofs.message.message_from_part as message-message-from-part
+
+pub crc-compute-crc-fixed : Fixed crc-compute-crc.ended (answer _) (λ M 𝓤 H. crc-compute-crc.clauses 𝓤 H) (λ M 𝓤 H. crc-compute-crc.spec 𝓤 H)
+crc-compute-crc-fixed =
+    fixes crc-compute-crc.ended _ (answer-set crc-compute-crc.ended) refl (λ κs. refl)
+    (λ κs a r e. r) (λ κs a y. (y, (tt, (tt, tt)))) (λ κs a r ws. refl)
+
+pub distance-compute-hamming-distance-fixed : Fixed distance-compute-hamming-distance.ended (answer _) (λ M 𝓤 H. distance-compute-hamming-distance.clauses 𝓤 H) (λ M 𝓤 H. distance-compute-hamming-distance.spec 𝓤 H)
+distance-compute-hamming-distance-fixed =
+    fixes distance-compute-hamming-distance.ended _ (answer-set distance-compute-hamming-distance.ended) refl (λ κs. refl)
+    (λ κs a r e. r) (λ κs a y. (y, (tt, (tt, (tt, tt))))) (λ κs a r ws. refl)
+
+pub header-df-is-valid-extended-squitter-fixed : Fixed header-df-is-valid-extended-squitter.ended (answer _) (λ M 𝓤 H. header-df-is-valid-extended-squitter.clauses 𝓤 H) (λ M 𝓤 H. header-df-is-valid-extended-squitter.spec 𝓤 H)
+header-df-is-valid-extended-squitter-fixed =
+    fixes header-df-is-valid-extended-squitter.ended _ (answer-set header-df-is-valid-extended-squitter.ended) refl (λ κs. refl)
+    (λ κs a r e. r) (λ κs a y. (y, (tt, (tt, (tt, tt))))) (λ κs a r ws. refl)
+
+pub message-extract-message-fixed : Fixed message-extract-message.ended (answer _) (λ M 𝓤 H. message-extract-message.clauses 𝓤 H) (λ M 𝓤 H. message-extract-message.spec 𝓤 H)
+message-extract-message-fixed =
+    fixes message-extract-message.ended _ (answer-set message-extract-message.ended) refl (λ κs. refl)
+    (λ κs a r e. r) (λ κs a y. (y, (tt, (tt, tt)))) (λ κs a r ws. refl)
+
+pub message-message-from-part-fixed : Fixed message-message-from-part.ended (answer _) (λ M 𝓤 H. message-message-from-part.clauses 𝓤 H) (λ M 𝓤 H. message-message-from-part.spec 𝓤 H)
+message-message-from-part-fixed =
+    fixes message-message-from-part.ended _ (answer-set message-message-from-part.ended) refl (λ κs. refl)
+    (λ κs a r e. r) (λ κs a y. (y, (tt, (tt, tt)))) (λ κs a r ws. refl)

@@ -1,20 +1,21 @@
--- One trial as the code makes it: a lookup, and the header check at a bit offset of a stream.
+-- One trial as the code makes it: what is found, and the header check at a bit offset of a stream.
 --     lookup-missed    nothing is found: the trial fails
 --     lookup-found     positions are found: the trial passes exactly if the header check says so
 -- Assumes nothing.
-use mathlib.Core.Path.{_≡_, refl, sym, _∙_, subst}
+use mathlib.Core.Path.{_≡_, refl, sym, ap, _∙_, subst}
 use mathlib.Core.Bool.{Bool, true, false, cond}
 use mathlib.Core.List.{List}
 use Prim.Native.Nat.{ℕ, _<_, _≤_}
-use lib.Dec.{lit<}
+use borrow.Author.Tests.{eq-eqb, ne-eqb}
+use lib.Dec.{eqb, lit<}
 use lib.ListN.{length, getD}
 use Rattle.annex10.specs.Header.{longHeader}
-use Rattle.annex10.specs.Repair.{repairedHead, clearing}
+use Rattle.annex10.specs.Repair.{count, inside, repairedHead}
+use Rattle.annex10.specs.Any.{only}
 use Rattle.annex10.specs.declared.Repairs.{Repairs}
 use Rattle.annex10.specs.declared.Found.{Found}
 use Rattle.annex10.specs.declared.Found.the-variants.{At, Nothing}
-use Rattle.annex10.proofs.Repairing.{found, head-is}
-use Rattle.annex10.proofs.Positions.{proper-inside}
+use Rattle.annex10.proofs.Repairing.{not-there, head-is}
 use Rattle.mode_s.specs.declared.header.Validity.{Validity}
 use Rattle.mode_s.specs.declared.header.Validity.the-variants.{Valid, Invalid, Refused}
 use Rattle.mode_s.specs.Header.{headerOf}
@@ -28,7 +29,7 @@ use Rattle.search.specs.declared.Tried.{Tried}
 use Rattle.search.specs.declared.Tried.the-variants.{Pass, Fail}
 use Rattle.search.specs.Kinds.{long}
 use Rattle.search.specs.Trials.{checked}
-use Rattle.trials.specs.With.{trialWith}
+use Rattle.trials.specs.Tries.{foundInside}
 
 -- what a trial makes of a header check
 abbrev pub passIf : Validity → Reading → Tried
@@ -41,22 +42,41 @@ pass-cond true r = refl
 pass-cond false r = refl
 
 -- the check of a message's first byte is the check of the repaired message
-checked-head : (m : List ℕ) (number : ℕ) (slicer : Slicer) (n crc : ℕ) (ρ : Repairs) → length m ≡ 14 → clearing 14 n crc ≡ At ρ
+checked-head : (m : List ℕ) (number : ℕ) (slicer : Slicer) (ρ : Repairs) → length m ≡ 14 → inside 14 ρ ≡ true
     → passIf (headerOf 14 longHeader (getD m 0 0) ρ) (record { trial = number; slicer = slicer; repairs = ρ }) ≡ checked long number slicer m (At ρ)
 unfolding headerOf checked long
-checked-head m number slicer n crc ρ l e =
+checked-head m number slicer ρ l e =
     let h : 0 < length m = subst (λ (k : ℕ). 0 < k) (sym l) (lit< tt) in
-    rw (proper-inside 14 ρ (found 14 n crc e .proper), head-is m ρ h)
+    rw (e, head-is m ρ h)
     (pass-cond (longHeader (repairedHead (getD m 0 0) ρ)) (record { trial = number; slicer = slicer; repairs = ρ }))
 
-module _ (stream : List ℕ) (bit number : ℕ) (slicer : Slicer) (n crc : ℕ) {f : Found} (e : f ≡ clearing 14 n crc) where
-  pub lookup-missed : f ≡ Nothing → Fail ≡ trialWith long number slicer (messageAt stream 14 bit) crc n
-  unfolding trialWith long checked
+-- what is found, if it is n positions
+pub only-hit : (f : Found) {ρ : Repairs} (n : ℕ) {k : ℕ} → f ≡ At ρ → k ≡ count ρ → n ≡ k → At ρ ≡ only f n
+only-hit f n {k} e q h = rw e (rw (eq-eqb n _ (h ∙ q)))
+
+pub only-miss : (f : Found) {ρ : Repairs} (n : ℕ) {k : ℕ} → f ≡ At ρ → k ≡ count ρ → (n ≡ k → ⊥) → Nothing ≡ only f n
+only-miss f n {k} e q h = rw e (rw (ne-eqb n _ (λ z. h (z ∙ sym q))))
+
+-- positions that are found lie inside
+pub inside-is : (f : Found) {ρ σ : Repairs} {b : Bool} → f ≡ At ρ → ρ ≡ σ → b ≡ inside 14 σ → b ≡ foundInside f
+inside-is f e q h = h ∙ sym (ap foundInside e ∙ ap (inside 14) q)
+
+-- some of what is found lies inside where all of it does
+only-inside : (o : Found) (n : ℕ) {ρ : Repairs} → foundInside o ≡ true → only o n ≡ At ρ → inside 14 ρ ≡ true
+only-inside Nothing n h e = not-there e
+only-inside (At σ) n {ρ} h e = go (eqb n (count σ)) e
+  where
+    go : (b : Bool) → cond b (At σ) Nothing ≡ At ρ → inside 14 ρ ≡ true
+    go true q = let s : σ ≡ ρ = cc in subst (λ (x : Repairs). inside 14 x ≡ true) s h
+    go false q = not-there q
+
+module _ (stream : List ℕ) (bit number : ℕ) (slicer : Slicer) (n : ℕ) (o : Found) {f : Found} (e : f ≡ only o n) where
+  pub lookup-missed : f ≡ Nothing → Fail ≡ checked long number slicer (messageAt stream 14 bit) (only o n)
+  unfolding checked
   lookup-missed z = rw (← e, z)
 
-  pub lookup-found : {ρ : Repairs} {v : Validity} → length stream ≡ 18 → bit ≤ 32 → f ≡ At ρ → v ≡ validityAt stream bit ρ
-      → passIf v (record { trial = number; slicer = slicer; repairs = ρ }) ≡ trialWith long number slicer (messageAt stream 14 bit) crc n
-  unfolding trialWith long
-  lookup-found {ρ} l b z g =
-      let q : clearing 14 n crc ≡ At ρ = sym e ∙ z in
-      rw (g, validity-done stream bit ρ l b, q) (checked-head (messageAt stream 14 bit) number slicer n crc ρ (message-length stream 14 bit) q)
+  pub lookup-found : {ρ : Repairs} {v : Validity} → length stream ≡ 18 → bit ≤ 32 → foundInside o ≡ true → f ≡ At ρ → v ≡ validityAt stream bit ρ
+      → passIf v (record { trial = number; slicer = slicer; repairs = ρ }) ≡ checked long number slicer (messageAt stream 14 bit) (only o n)
+  lookup-found {ρ} l b i z g =
+      let q : only o n ≡ At ρ = sym e ∙ z in
+      rw (g, validity-done stream bit ρ l b, q) (checked-head (messageAt stream 14 bit) number slicer ρ (message-length stream 14 bit) (only-inside o n i q))

@@ -1,4 +1,3 @@
-pub mod With
 pub mod Tries
 pub mod Chosen
 pub mod Inner

@@ -1,48 +1,41 @@
-// One trial: the positions that clear a remainder, and the header of the message that they repair.
+// One trial: the positions that are found, and the header of the message that they repair.
+use crate::choice::repairs_of;
 use annex10::Found;
-use annex10::Repairs;
 use mode_s::header::Validity;
 use place::Slicer;
-use repairs::double_bit_error_from_crc24;
-use repairs::single_bit_error_from_crc24;
 use search::Reading;
 use search::Tried;
 use streams::header::df_is_valid_extended_squitter;
 ghost use mathlib.Core.Path.{_≡_};
+ghost use mathlib.Core.Bool.{true};
 ghost use Prim.Native.Nat.{_≤_};
 ghost use lib.ListN.{length};
-ghost use Rattle.annex10.specs.Repair.{clearing};
+ghost use Rattle.annex10.specs.Any.{only};
 ghost use Rattle.streams.specs.Streams.{messageAt};
 ghost use Rattle.search.specs.Kinds.{long};
-ghost use Rattle.search.specs.Trials.{given};
-ghost use Rattle.trials.specs.With.{trialWith};
+ghost use Rattle.search.specs.Trials.{checked, given};
+ghost use Rattle.trials.specs.Tries.{foundInside};
 ghost use Rattle.trials.specs.Inner.{orTry};
 
-// The n positions that clear a remainder.
-fn clear(n: u8, crc: u32) -> Found
-    ensures { λ r. ⌜ r ≡ clearing 14 n crc ⌝ }
+// What is found, if it is n positions.
+fn only(found: Found, n: u32) -> Found
+    ensures { λ r. ⌜ r ≡ only found n ⌝ }
 {
-    if n == 2 {
-        return double_bit_error_from_crc24(crc);
-    }
-    if n == 1 {
-        return single_bit_error_from_crc24(crc);
-    }
-    if n != 0 {
+    let Found::At(repairs) = found else {
         return Found::Nothing;
+    };
+    if n == repairs_of(repairs) {
+        return found;
     }
-    if crc != 0 {
-        return Found::Nothing;
-    }
-    Found::At(Repairs::None)
+    Found::Nothing
 }
 
-// The message at a bit offset of a stream with n positions repaired, its remainder given.
-fn try_one(number: u8, slicer: Slicer, stream: &[u8], bit: usize, crc: u32, n: u8) -> Tried
-    requires { ⌜ (length (now stream) ≡ 18) × (bit ≤ 32) ⌝ }
-    ensures { λ r. ⌜ r ≡ trialWith long number slicer (messageAt (now (stream .entry)) 14 bit) crc n ⌝ }
+// The message at a bit offset of a stream with n positions repaired, those that clear it being given.
+fn try_one(number: u8, slicer: Slicer, stream: &[u8], bit: usize, found: Found, n: u32) -> Tried
+    requires { ⌜ (length (now stream) ≡ 18) × (bit ≤ 32) × (foundInside found ≡ true) ⌝ }
+    ensures { λ r. ⌜ r ≡ checked long number slicer (messageAt (now (stream .entry)) 14 bit) (only found n) ⌝ }
 {
-    let Found::At(repairs) = clear(n, crc) else {
+    let Found::At(repairs) = only(found, n) else {
         return Tried::Fail;
     };
     match df_is_valid_extended_squitter(stream, bit, repairs) {
@@ -52,7 +45,7 @@ fn try_one(number: u8, slicer: Slicer, stream: &[u8], bit: usize, crc: u32, n: u
             repairs,
         }),
         Validity::Invalid => Tried::Fail,
-        // Positions that clear a remainder lie in the message.
+        // The positions lie in the message.
         Validity::Refused(_) => Tried::Fail,
     }
 }
@@ -65,11 +58,11 @@ pub fn then_try(
     slicer: Slicer,
     stream: &[u8],
     bit: usize,
-    crc: u32,
-    n: u8,
+    found: Found,
+    n: u32,
 ) -> Tried
-    requires { ⌜ (length (now stream) ≡ 18) × (bit ≤ 32) ⌝ }
-    ensures { λ r. ⌜ r ≡ orTry before (given made (trialWith long number slicer (messageAt (now (stream .entry)) 14 bit) crc n)) ⌝ }
+    requires { ⌜ (length (now stream) ≡ 18) × (bit ≤ 32) × (foundInside found ≡ true) ⌝ }
+    ensures { λ r. ⌜ r ≡ orTry before (given made (checked long number slicer (messageAt (now (stream .entry)) 14 bit) (only found n))) ⌝ }
 {
     let Tried::Fail = before else {
         return before;
@@ -77,5 +70,5 @@ pub fn then_try(
     if !made {
         return Tried::Fail;
     }
-    try_one(number, slicer, stream, bit, crc, n)
+    try_one(number, slicer, stream, bit, found, n)
 }

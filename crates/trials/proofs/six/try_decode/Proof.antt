@@ -9,10 +9,10 @@ try-number-requires : tie.Need-try-number-requires
 try-number-requires c κs = search needs
 
 returns : tie.Need-returns
-returns c = try-refused _ _ _ _ _ _ (c .before .try-number .ensures) (c .if1 .taken)
+returns c = try-refused _ _ _ _ _ _ _ (c .before .try-number .ensures) (c .if1 .taken)
 
 try-six-requires : tie.Need-try-six-requires
-try-six-requires c κs = let t = try-opened _ _ _ _ (c .before .try-number .ensures) (c .if1 .left) in (t .size, t .other, t .low)
+try-six-requires c κs = let t = try-opened _ _ _ _ _ _ (c .before .try-number .ensures) (c .if1 .left) in (t .size, t .other, t .low, t .first-inside, t .second-inside)
 
 enum-known-r : tie.Need-enum-known-r
 enum-known-r c = search needs
@@ -22,13 +22,13 @@ enum-told c = search needs
 
 returns-2 : tie.Need-returns-2
 returns-2 c =
-    let t = try-opened _ _ _ _ (c .before .before .before .before .before .try-number .ensures) (c .before .before .before .before .if1 .left) in
-    try-done _ _ _ _ _ _ t (c .before .before .before .try-six .ensures) (c .before .r .given .1)
+    let t = try-opened _ _ _ _ _ _ (c .before .before .before .before .before .try-number .ensures) (c .before .before .before .before .if1 .left) in
+    try-done _ _ _ _ _ _ _ t (c .before .before .before .try-six .ensures) (c .before .r .given .1)
 
 returns-3 : tie.Need-returns-3
 returns-3 c =
-    let t = try-opened _ _ _ _ (c .before .before .before .before .try-number .ensures) (c .before .before .before .if1 .left) in
-    try-done _ _ _ _ _ _ t (c .before .before .try-six .ensures) (c .enum-told .given .1)
+    let t = try-opened _ _ _ _ _ _ (c .before .before .before .before .try-number .ensures) (c .before .before .before .if1 .left) in
+    try-done _ _ _ _ _ _ _ t (c .before .before .try-six .ensures) (c .enum-told .given .1)
 
 pub try-decode-spec : {M : Type 1} → statement M
 try-decode-spec =

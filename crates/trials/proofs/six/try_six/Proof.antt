@@ -1,6 +1,7 @@
 -- `trials::six::try_six` meets its contract: six trials one after the other are the reading.
 -- Assumes nothing.
 use Rattle.trials.proofs.Turns.{in-turn}
+use Rattle.trials.specs.Tries.{readingBy}
 use borrow.Author.Needs.{needs}
 use Rattle.trials.proofs.six.try_six.Statement.{statement}
 use Rattle.trials.proofs.six.try_six.Tie as tie
@@ -30,8 +31,9 @@ then-try-requires-6 : tie.Need-then-try-requires-6
 then-try-requires-6 c κs = search needs
 
 returns : tie.Need-returns
+unfolding readingBy
 returns c =
-    in-turn _ _ _ _ _ _
+    in-turn _ _ _ _ _ _ _
     (c .before .before .before .before .before .before .before .both .ensures)
     (c .before .before .before .before .before .before .both2 .ensures)
     (c .before .before .before .before .before .then-try .ensures)

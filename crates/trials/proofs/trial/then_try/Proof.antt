@@ -3,6 +3,7 @@
 use borrow.Author.Tests.{not-true, not-false}
 use Rattle.search.specs.Trials.{given}
 use Rattle.trials.specs.Inner.{orTry}
+use Rattle.trials.proofs.Turns.{stays}
 use borrow.Author.Needs.{needs}
 use Rattle.trials.proofs.trial.then_try.Statement.{statement}
 use Rattle.trials.proofs.trial.then_try.Tie as tie
@@ -14,8 +15,7 @@ enum-told-2 : tie.Need-enum-told-2
 enum-told-2 c = search needs
 
 returns : tie.Need-returns
-unfolding orTry
-returns c = search needs
+returns c = stays _ _ (c .enum-told2 .given .1)
 
 returns-2 : tie.Need-returns-2
 unfolding orTry given

@@ -6,8 +6,8 @@ use borrow.Author.Needs.{needs}
 use Rattle.trials.proofs.trial.try_one.Statement.{statement}
 use Rattle.trials.proofs.trial.try_one.Tie as tie
 
-clear-requires : tie.Need-clear-requires
-clear-requires c κs = search needs
+only-requires : tie.Need-only-requires
+only-requires c κs = search needs
 
 enum-known-repairs : tie.Need-enum-known-repairs
 enum-known-repairs c = search needs
@@ -16,7 +16,7 @@ enum-told : tie.Need-enum-told
 enum-told c = search needs
 
 returns : tie.Need-returns
-returns c = lookup-missed _ _ _ _ _ _ (c .before .before .clear .ensures) (c .enum-told .given .1)
+returns c = lookup-missed _ _ _ _ _ (c .before .before .before .before .args .found) (c .before .before .only .ensures) (c .enum-told .given .1)
 
 df-is-valid-extended-squitter-requires : tie.Need-df-is-valid-extended-squitter-requires
 df-is-valid-extended-squitter-requires c κs = search needs
@@ -33,26 +33,26 @@ enum-told-4 c = search needs
 returns-2 : tie.Need-returns-2
 returns-2 c =
     let found = c .before .before .before .before in
-    let (size, low) = c .before .before .before .before .before .before .before .before .pre in
-    lookup-found _ _ _ _ _ _ (c .before .before .before .before .before .before .clear .ensures) size low (found .repairs .given .1) (sym (c .enum-told2 .given .1) ∙ c .before .before .df-is-valid-extended-squitter .ensures)
+    let (size, low, inside) = c .before .before .before .before .before .before .before .before .pre in
+    lookup-found _ _ _ _ _ (c .before .before .before .before .before .before .before .before .args .found) (c .before .before .before .before .before .before .only .ensures) size low inside (found .repairs .given .1) (sym (c .enum-told2 .given .1) ∙ c .before .before .df-is-valid-extended-squitter .ensures)
 
 returns-3 : tie.Need-returns-3
 returns-3 c =
     let found = c .before .before .before .before in
-    let (size, low) = c .before .before .before .before .before .before .before .before .pre in
-    lookup-found _ _ _ _ _ _ (c .before .before .before .before .before .before .clear .ensures) size low (found .repairs .given .1) (sym (c .enum-told3 .given .1) ∙ c .before .before .df-is-valid-extended-squitter .ensures)
+    let (size, low, inside) = c .before .before .before .before .before .before .before .before .pre in
+    lookup-found _ _ _ _ _ (c .before .before .before .before .before .before .before .before .args .found) (c .before .before .before .before .before .before .only .ensures) size low inside (found .repairs .given .1) (sym (c .enum-told3 .given .1) ∙ c .before .before .df-is-valid-extended-squitter .ensures)
 
 returns-4 : tie.Need-returns-4
 returns-4 c =
     let found = c .before .before .before .before in
-    let (size, low) = c .before .before .before .before .before .before .before .before .pre in
-    lookup-found _ _ _ _ _ _ (c .before .before .before .before .before .before .clear .ensures) size low (found .repairs .given .1) (sym (c .enum-told4 .given .1) ∙ c .before .before .df-is-valid-extended-squitter .ensures)
+    let (size, low, inside) = c .before .before .before .before .before .before .before .before .pre in
+    lookup-found _ _ _ _ _ (c .before .before .before .before .before .before .before .before .args .found) (c .before .before .before .before .before .before .only .ensures) size low inside (found .repairs .given .1) (sym (c .enum-told4 .given .1) ∙ c .before .before .df-is-valid-extended-squitter .ensures)
 
 pub try-one-spec : {M : Type 1} → statement M
 try-one-spec =
     tie.close
     (tie.spec
-    clear-requires
+    only-requires
     enum-known-repairs
     enum-told
     returns

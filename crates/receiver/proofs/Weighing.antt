@@ -11,7 +11,7 @@ use mathlib.Core.Option.{none, some}
 use Prim.Native.Nat.{ℕ, _≤_, min}
 use native.Mathlib.Omega.{arith}
 use lib.Ieee.{Float}
-use Rattle.annex10.specs.Remainder.{remainder}
+use Rattle.annex10.specs.declared.Found.{Found}
 use Rattle.annex10.specs.Repair.{inside, repaired}
 use Rattle.annex10.proofs.Positions.{proper-inside}
 use Rattle.place.specs.declared.Place.{Place}
@@ -35,7 +35,7 @@ use Rattle.trials.specs.declared.six.TriedAt.{TriedAt}
 use Rattle.trials.specs.declared.six.TriedAt.the-variants.{Pass, Fail, Refused}
 use Rattle.trials.specs.Tries.{triedOf, tryWith}
 use Rattle.trials.proofs.Answering.{try-is}
-use Rattle.receiver.specs.Inner.{Streams, seenAt}
+use Rattle.receiver.specs.Inner.{Streams, Told, seenAt}
 
 -- ---- the filter
 
@@ -61,10 +61,9 @@ module _ (samples row : List Float) (coherent noncoherent : List ℕ) (p : Place
     abbrev read : Tried
     read = reading long level (messageAt coherent 14 (p .bit)) (messageAt noncoherent 14 (p .bit))
 
-    tried-is : {c n : ℕ} {t : TriedAt} → Streams coherent noncoherent (p .bit) → level ≤ 2
-        → c ≡ remainder (messageAt coherent 14 (p .bit)) → n ≡ remainder (messageAt noncoherent 14 (p .bit))
-        → t ≡ tryWith level coherent noncoherent (p .bit) c n → t ≡ triedOf 0 read
-    tried-is s l ec en et = et ∙ try-is level coherent noncoherent (p .bit) _ _ (s .first) (s .second) l (s .low) ec en
+    tried-is : {c d : Found} {apart : Bool} {t : TriedAt} → Streams coherent noncoherent (p .bit) → level ≤ 2
+        → Told coherent noncoherent (p .bit) c d apart → t ≡ tryWith level coherent noncoherent (p .bit) c d apart → t ≡ triedOf 0 read
+    tried-is s l k et = et ∙ try-is level coherent noncoherent (p .bit) (s .first) (s .second) l (s .low) (k .first) (k .second) (k .differ)
 
     passed : (t : Tried) {r : Reading} → triedOf 0 t ≡ Pass r → t ≡ T.Pass r
     passed (T.Pass q) {r} e = let z : q ≡ r = cc in ap T.Pass z
@@ -78,20 +77,17 @@ module _ (samples row : List Float) (coherent noncoherent : List ℕ) (p : Place
     unrefused (T.Pass q) e = let z : _≡_ {A = ℕ} 0 1 = cc in absurd (omega arith)
     unrefused T.Fail e = let z : _≡_ {A = ℕ} 0 1 = cc in absurd (omega arith)
 
-    pub tried-pass : {c n : ℕ} {t : TriedAt} {r : Reading} → Streams coherent noncoherent (p .bit) → level ≤ 2
-        → c ≡ remainder (messageAt coherent 14 (p .bit)) → n ≡ remainder (messageAt noncoherent 14 (p .bit))
-        → t ≡ tryWith level coherent noncoherent (p .bit) c n → t ≡ Pass r → read ≡ T.Pass r
-    tried-pass s l ec en et er = passed read (sym (tried-is s l ec en et) ∙ er)
+    pub tried-pass : {c d : Found} {apart : Bool} {t : TriedAt} {r : Reading} → Streams coherent noncoherent (p .bit) → level ≤ 2
+        → Told coherent noncoherent (p .bit) c d apart → t ≡ tryWith level coherent noncoherent (p .bit) c d apart → t ≡ Pass r → read ≡ T.Pass r
+    tried-pass s l k et er = passed read (sym (tried-is s l k et) ∙ er)
 
-    pub tried-fail : {c n : ℕ} {t : TriedAt} → Streams coherent noncoherent (p .bit) → level ≤ 2
-        → c ≡ remainder (messageAt coherent 14 (p .bit)) → n ≡ remainder (messageAt noncoherent 14 (p .bit))
-        → t ≡ tryWith level coherent noncoherent (p .bit) c n → t ≡ Fail → read ≡ T.Fail
-    tried-fail s l ec en et er = failed read (sym (tried-is s l ec en et) ∙ er)
+    pub tried-fail : {c d : Found} {apart : Bool} {t : TriedAt} → Streams coherent noncoherent (p .bit) → level ≤ 2
+        → Told coherent noncoherent (p .bit) c d apart → t ≡ tryWith level coherent noncoherent (p .bit) c d apart → t ≡ Fail → read ≡ T.Fail
+    tried-fail s l k et er = failed read (sym (tried-is s l k et) ∙ er)
 
-    pub tried-never : {B : Type 0} {c n k : ℕ} {t : TriedAt} → Streams coherent noncoherent (p .bit) → level ≤ 2
-        → c ≡ remainder (messageAt coherent 14 (p .bit)) → n ≡ remainder (messageAt noncoherent 14 (p .bit))
-        → t ≡ tryWith level coherent noncoherent (p .bit) c n → t ≡ Refused k → B
-    tried-never s l ec en et er = unrefused read (sym (tried-is s l ec en et) ∙ er)
+    pub tried-never : {B : Type 0} {c d : Found} {apart : Bool} {k : ℕ} {t : TriedAt} → Streams coherent noncoherent (p .bit) → level ≤ 2
+        → Told coherent noncoherent (p .bit) c d apart → t ≡ tryWith level coherent noncoherent (p .bit) c d apart → t ≡ Refused k → B
+    tried-never s l k et er = unrefused read (sym (tried-is s l k et) ∙ er)
 
     -- the positions of a reading lie in the message
     pub reading-inside : {r : Reading} → read ≡ T.Pass r → inside 14 (r .repairs) ≡ true

@@ -1,10 +1,15 @@
 -- What private functions compute: no public contract cites it.
 -- Assumes nothing.
 use mathlib.Core.Path.{_≡_}
+use mathlib.Core.Bool.{Bool, not}
 use mathlib.Core.List.{List, [], _++_}
 use Prim.Native.Nat.{ℕ, zero, suc, _*_, _≤_}
+use lib.Dec.{eqb}
 use lib.ListN.{length, take, drop}
 use lib.Ieee.{Float}
+use Rattle.annex10.specs.Remainder.{remainder}
+use Rattle.annex10.specs.Any.{clearingAny}
+use Rattle.annex10.specs.declared.Found.{Found}
 use Rattle.place.specs.declared.Place.{Place}
 use Rattle.place.specs.declared.Slicer.{Slicer}
 use Rattle.place.specs.declared.Slicer.the-variants.{Coherent, Noncoherent}
@@ -14,6 +19,8 @@ use Rattle.kernels.specs.Symbols.{symbolsOf}
 use Rattle.kernels.specs.Powers.{powerOf, noiseOf}
 use Rattle.streams.specs.Streams.{messageAt}
 use Rattle.streams.specs.Distances.{differing}
+use Rattle.streams.specs.Rolling.{crcsOf}
+use Rattle.repairs.specs.Codes.{codesOf}
 use Rattle.cn0.specs.Estimate.{cn0Of}
 use Rattle.timing.specs.declared.Offset.{Offset}
 use Rattle.timing.specs.declared.Moves.{Moves}
@@ -41,17 +48,25 @@ unfoldable pub seenIn : List Float → Window
 seenIn symbols = record { bits = λ slicer p. []; distance = λ p. 0; prompt = powerIn symbols; cn0 = powerIn symbols }
 
 -- what a search looks at, made from the samples
-pub record Ready (samples symbols : List Float) (coherent noncoherent : List ℕ) : Type 0 where
+pub record Ready (samples symbols : List Float) (coherent noncoherent crcs codes : List ℕ) : Type 0 where
   pub whole : length samples ≡ 2310
   pub sums : symbols ≡ symbolsOf samples
   pub first : coherent ≡ rowsOf Coherent symbols 4
   pub second : noncoherent ≡ rowsOf Noncoherent symbols 4
+  pub remainders : crcs ≡ crcsOf coherent ++ crcsOf noncoherent
+  pub clear : codes ≡ codesOf crcs
 
 -- two streams, and a bit offset in them
 pub record Streams (coherent noncoherent : List ℕ) (bit : ℕ) : Type 0 where
   pub first : length coherent ≡ 18
   pub second : length noncoherent ≡ 18
   pub low : bit ≤ 32
+
+-- what clears the two messages there, and whether their remainders differ
+pub record Told (coherent noncoherent : List ℕ) (bit : ℕ) (c d : Found) (apart : Bool) : Type 0 where
+  pub first : c ≡ clearingAny 14 (remainder (messageAt coherent 14 bit))
+  pub second : d ≡ clearingAny 14 (remainder (messageAt noncoherent 14 bit))
+  pub differ : apart ≡ not (eqb (remainder (messageAt coherent 14 bit)) (remainder (messageAt noncoherent 14 bit)))
 
 -- what is seen at a place, from the row and the streams in which it lies
 unfoldable pub seenAt : List Float → List Float → List ℕ → List ℕ → Window

@@ -2,6 +2,7 @@
 use crate::message::message_at;
 use crate::powers::noise_power;
 use crate::powers::prompt_power;
+use annex10::Found;
 use annex10::Repairs;
 use cn0::estimate_cn0;
 use place::Place;
@@ -10,8 +11,6 @@ use search::Candidate;
 use search::Read;
 use search::Reading;
 use search::Settings;
-use streams::crc::Crc;
-use streams::crc::compute_crc;
 use streams::distance::Distance;
 use streams::distance::compute_hamming_distance;
 use trials::choice::repairs_of;
@@ -23,7 +22,6 @@ ghost use mathlib.Core.Bool.{true, cond};
 ghost use mathlib.Core.Option.{none, some};
 ghost use Prim.Native.Nat.{_≤_};
 ghost use lib.ListN.{length};
-ghost use Rattle.annex10.specs.Remainder.{remainder};
 ghost use Rattle.annex10.specs.Repair.{inside};
 ghost use Rattle.place.specs.Step.{within};
 ghost use Rattle.place.specs.All.{listed};
@@ -32,7 +30,7 @@ ghost use Rattle.streams.specs.Distances.{differing};
 ghost use Rattle.search.specs.Choice.{candidate, dropped, candidateAt};
 ghost use Rattle.search.specs.Kinds.{long};
 ghost use Rattle.search.specs.Answers.{readOf};
-ghost use Rattle.receiver.specs.Inner.{Streams, seenAt};
+ghost use Rattle.receiver.specs.Inner.{Streams, Told, seenAt};
 
 // Nothing is held.
 pub fn nothing() -> Read
@@ -53,16 +51,6 @@ pub fn nothing() -> Read
             prompt: 0.0,
             cn0: 0.0,
         },
-    }
-}
-
-fn crc_at(stream: &[u8], bit: usize) -> u32
-    requires { ⌜ (length (now stream) ≡ 18) × (bit ≤ 32) ⌝ }
-    ensures { λ r. ⌜ r ≡ remainder (messageAt (now (stream .entry)) 14 bit) ⌝ }
-{
-    match compute_crc(stream, bit) {
-        Crc::Is(crc) => crc,
-        Crc::Refused(_) => 0,
     }
 }
 
@@ -126,7 +114,7 @@ fn survives(s: Settings, coherent: &[u8], noncoherent: &[u8], bit: usize, c: Can
     }
 }
 
-// The surviving reading of a place.
+// The surviving reading of a place: c and d are what clears its two messages, apart whether their remainders differ.
 pub fn read_streams<'a>(
     samples: &[f32],
     row: &[f32],
@@ -134,15 +122,16 @@ pub fn read_streams<'a>(
     noncoherent: &'a [u8],
     s: Settings,
     place: Place,
+    c: Found,
+    d: Found,
+    apart: bool,
 ) -> Read
-    requires { ⌜ (length (now samples) ≡ 2310) × (length (now row) ≡ 576) × Streams (now coherent) (now noncoherent) (place .bit) × (within 14 place ≡ true) × (s .level ≤ 2) ⌝ }
+    requires { ⌜ (length (now samples) ≡ 2310) × (length (now row) ≡ 576) × Streams (now coherent) (now noncoherent) (place .bit) × (within 14 place ≡ true) × (s .level ≤ 2) × Told (now coherent) (now noncoherent) (place .bit) c d apart ⌝ }
     ensures { λ r. ⌜ r ≡ readOf (candidateAt long s (seenAt (now (samples .entry)) (now (row .entry)) (now (coherent .entry)) (now (noncoherent .entry))) place) ⌝ }
 {
     let bit = place.bit;
     let level = s.level;
-    let c = crc_at(coherent, bit);
-    let n = crc_at(noncoherent, bit);
-    match try_decode(level, coherent, noncoherent, bit, c, n) {
+    match try_decode(level, coherent, noncoherent, bit, c, d, apart) {
         TriedAt::Pass(reading) => survives(
             s,
             coherent,

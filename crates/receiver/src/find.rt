@@ -1,14 +1,15 @@
 // The search over the 248 places.
 use crate::candidate::nothing;
 use crate::candidate::read_streams;
+use crate::codes::says;
 use place::Place;
+use repairs::bit_errors_of;
 use search::Read;
 use search::Settings;
 use trials::choice::choose;
 ghost use mathlib.Core.Path.{_≡_};
 ghost use mathlib.Core.Bool.{true};
 ghost use Prim.Native.Nat.{_≤_};
-ghost use lib.ListN.{length};
 ghost use Rattle.place.specs.All.{listed};
 ghost use Rattle.search.specs.Choice.{candidateAt, best};
 ghost use Rattle.search.specs.Kinds.{long};
@@ -16,16 +17,18 @@ ghost use Rattle.search.specs.Seen.{windowOf};
 ghost use Rattle.search.specs.Answers.{readOf};
 ghost use Rattle.receiver.specs.Inner.{Ready};
 
-// The surviving reading of a place: its row of symbols and its two streams are lent.
+// The surviving reading of a place: its row of symbols and its two streams are lent, and what clears its messages is told.
 pub fn read_at<'a>(
     samples: &[f32],
     symbols: &[f32],
     coherent: &'a [u8],
     noncoherent: &'a [u8],
+    crcs: &[u32],
+    codes: &[u32],
     s: Settings,
     place: Place,
 ) -> Read
-    requires { ⌜ Ready (now samples) (now symbols) (now coherent) (now noncoherent) × (listed 31 place ≡ true) × (s .level ≤ 2) ⌝ }
+    requires { ⌜ Ready (now samples) (now symbols) (now coherent) (now noncoherent) (now crcs) (now codes) × (listed 31 place ≡ true) × (s .level ≤ 2) ⌝ }
     ensures { λ r. ⌜ r ≡ readOf (candidateAt long s (windowOf 14 (now (samples .entry))) place) ⌝ }
 {
     let phase = place.phase;
@@ -34,6 +37,10 @@ pub fn read_at<'a>(
     let to = from + 576;
     let at = 36 * phase + 18 * symbol;
     let end = at + 18;
+    let i = 31 * (2 * phase + symbol) + (place.bit - 1);
+    let c = bit_errors_of(codes[i]);
+    let d = bit_errors_of(codes[248 + i]);
+    let apart = crcs[i] != crcs[248 + i];
     read_streams(
         samples,
         &symbols[from..to],
@@ -41,25 +48,43 @@ pub fn read_at<'a>(
         &noncoherent[at..end],
         s,
         place,
+        c,
+        d,
+        apart,
     )
 }
 
-// The best of all places.
+// The best of all places. Most hold nothing: a look at their codes is enough.
 pub fn find<'a>(
     samples: &[f32],
     symbols: &[f32],
     coherent: &'a [u8],
     noncoherent: &'a [u8],
+    crcs: &[u32],
+    codes: &[u32],
     s: Settings,
 ) -> Read
-    requires { ⌜ Ready (now samples) (now symbols) (now coherent) (now noncoherent) × (s .level ≤ 2) ⌝ }
+    requires { ⌜ Ready (now samples) (now symbols) (now coherent) (now noncoherent) (now crcs) (now codes) × (s .level ≤ 2) ⌝ }
     ensures { λ r. ⌜ r ≡ readOf (best long s (windowOf 14 (now (samples .entry)))) ⌝ }
 {
     let mut held = nothing();
     let mut k: usize = 0;
     while k < 248 {
-        let new = read_at(samples, symbols, coherent, noncoherent, s, Place::at(k));
-        held = choose(held, new);
+        let i = 31 * (k % 8) + k / 8;
+        if says(codes[i], codes[248 + i]) {
+            let place = Place::at(k);
+            let new = read_at(
+                samples,
+                symbols,
+                coherent,
+                noncoherent,
+                crcs,
+                codes,
+                s,
+                place,
+            );
+            held = choose(held, new);
+        }
         k += 1;
     }
     held

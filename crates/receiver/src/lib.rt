@@ -1,5 +1,6 @@
 // From a window of samples to the answer.
 mod candidate;
+mod codes;
 pub mod decode;
 mod find;
 mod message;

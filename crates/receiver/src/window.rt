@@ -1,10 +1,12 @@
 // A window that is taken: its symbols and streams are made here, and lent to the search.
+use crate::codes::all_crcs;
 use crate::find::find;
 use crate::find::read_at;
 use crate::rows::demodulate_rows;
 use crate::subsample::subsample;
 use kernels::symbols::accumulate_symbols;
 use place::Place;
+use repairs::bit_errors_from_crc24s;
 use search::Read;
 use search::Settings;
 use timing::Timing;
@@ -39,8 +41,12 @@ pub fn best_of(samples: &[f32], symbols: &[f32], s: Settings) -> Read
 {
     let mut coherent = [0u8; 144];
     let mut noncoherent = [0u8; 144];
+    let mut crcs = [0u32; 496];
+    let mut codes = [0u32; 496];
     demodulate_rows(symbols, &mut coherent, &mut noncoherent);
-    find(samples, symbols, &coherent, &noncoherent, s)
+    all_crcs(&coherent, &noncoherent, &mut crcs);
+    bit_errors_from_crc24s(&crcs, &mut codes);
+    find(samples, symbols, &coherent, &noncoherent, &crcs, &codes, s)
 }
 
 // The surviving reading of one place.
@@ -50,6 +56,19 @@ pub fn reading_at(samples: &[f32], symbols: &[f32], s: Settings, place: Place) -
 {
     let mut coherent = [0u8; 144];
     let mut noncoherent = [0u8; 144];
+    let mut crcs = [0u32; 496];
+    let mut codes = [0u32; 496];
     demodulate_rows(symbols, &mut coherent, &mut noncoherent);
-    read_at(samples, symbols, &coherent, &noncoherent, s, place)
+    all_crcs(&coherent, &noncoherent, &mut crcs);
+    bit_errors_from_crc24s(&crcs, &mut codes);
+    read_at(
+        samples,
+        symbols,
+        &coherent,
+        &noncoherent,
+        &crcs,
+        &codes,
+        s,
+        place,
+    )
 }

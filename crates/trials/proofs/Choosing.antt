@@ -3,6 +3,7 @@
 --     no-newcomer ..            `chosenRead` by the tests that the code makes
 --     chosen-better             on what is found the choice is that of the search
 --     chosen-step, chosen-more  the same for a loop: one newcomer, one place more
+--     chosen-none               one place more that holds nothing
 -- Assumes nothing.
 use mathlib.Core.Path.{_≡_, refl, sym, ap, _∙_}
 use mathlib.Core.Bool.{Bool, true, false, cond}
@@ -67,3 +68,13 @@ chosen-step h x p q e = e ∙ rw (p, q) (chosen-better h x)
 pub chosen-more : (f : Place → Option Candidate) (at : ℕ → Place) (k : ℕ) {a b r : Read}
     → a ≡ readOf (scan f none (tabulate k at)) → b ≡ readOf (f (at k)) → r ≡ chosenRead a b → r ≡ readOf (scan f none (tabulate (k + 1) at))
 chosen-more f at k p q e = chosen-step (scan f none (tabulate k at)) (f (at k)) p q e ∙ ap readOf (sym (scan-more f at k))
+
+-- where nothing is found at the next, what is held stays
+better-none : (h : Option Candidate) → better h none ≡ h
+better-none none = refl
+better-none (some h) = refl
+
+pub chosen-none : (f : Place → Option Candidate) (at : ℕ → Place) (k : ℕ) {a : Read}
+    → a ≡ readOf (scan f none (tabulate k at)) → f (at k) ≡ none → a ≡ readOf (scan f none (tabulate (k + 1) at))
+chosen-none f at k p q =
+    p ∙ ap readOf (sym (scan-more f at k ∙ ap (better (scan f none (tabulate k at))) q ∙ better-none (scan f none (tabulate k at))))

@@ -86,10 +86,10 @@ module _ (level : ℕ) (coherent noncoherent : List ℕ) where
       rw (p, q, s, x 0, x 1, x 2, y 0, y 1, y 2)
 
   -- where nothing clears either, all fail
-  pub none-read : (apart : Bool) → clearingAny 14 (remainder coherent) ≡ Nothing → clearingAny 14 (remainder noncoherent) ≡ Nothing
+  pub none-read : clearingAny 14 (remainder coherent) ≡ Nothing → clearingAny 14 (remainder noncoherent) ≡ Nothing
       → reading long level coherent noncoherent ≡ Fail
   unfolding sixTrials checked
-  none-read apart p q = sym (reading-by (sym p) (sym q) refl) ∙ go (leb 1 level) (leb 2 level) (not (eqb (remainder coherent) (remainder noncoherent)))
+  none-read p q = sym (reading-by (sym p) (sym q) refl) ∙ go (leb 1 level) (leb 2 level) (not (eqb (remainder coherent) (remainder noncoherent)))
     where
       go : (a b e : Bool) → first (Fail ∷ Fail ∷ given a Fail ∷ given a (given e Fail) ∷ given b Fail ∷ given b (given e Fail) ∷ []) ≡ Fail
       go a b e = rw (given-fail a, given-fail b, given-fail e, given-fail a, given-fail b)

@@ -1,9 +1,11 @@
--- `receiver::find::find` meets its contract. The loop's invariant: what is held is the best of the first k places.
+-- `receiver::find::find` meets its contract. The loop's invariant: what is held is the best of the first k places. A
+-- place whose codes say nothing holds nothing.
 -- Assumes nothing.
 use borrow.Author.Needs.{needs}
 use mathlib.Core.Path.{_≡_, sym, ap, _∙_, subst}
 use native.Mathlib.Omega.{arith}
 use mathlib.Core.Bool.{true}
+use mathlib.Core.Logic.{⊎-elim}
 use mathlib.Core.Option.{none}
 use Prim.Native.Nat.{ℕ, _-_, _≤_}
 use Rattle.lists.specs.From.{tabulate}
@@ -15,32 +17,56 @@ use Rattle.search.specs.Kinds.{long}
 use Rattle.search.specs.Seen.{windowOf}
 use Rattle.search.specs.Answers.{readOf}
 use Rattle.search.proofs.Scanning.{scan-start}
-use Rattle.trials.proofs.Choosing.{chosen-more}
-use Rattle.receiver.proofs.Finding.{best-is}
+use Rattle.trials.proofs.Choosing.{chosen-more, chosen-none}
+use Rattle.receiver.proofs.Finding.{ready-sizes, skipped, best-is}
 use Rattle.receiver.proofs.find.find.Statement.{statement}
 use Rattle.receiver.proofs.find.find.Tie as tie
 
 abbrev Inv-loop : tie.InvT-loop
-Inv-loop samples symbols coherent noncoherent s held₀ k₀ held k = (k ≤ 248) × (held ≡ readOf (scan (candidateAt long s (windowOf 14 samples)) none (tabulate k placeAt)))
+Inv-loop samples symbols coherent noncoherent crcs codes s held₀ k₀ held k = (k ≤ 248) × (held ≡ readOf (scan (candidateAt long s (windowOf 14 samples)) none (tabulate k placeAt)))
 
 abbrev μ-loop : tie.MeasureT-loop
-μ-loop samples symbols coherent noncoherent s held₀ k₀ held k = 248 - k
+μ-loop samples symbols coherent noncoherent crcs codes s held₀ k₀ held k = 248 - k
 
 nothing-requires : tie.Need-nothing-requires Inv-loop μ-loop
 nothing-requires c κs = search needs
 
 loop-holds : tie.Need-loop-holds Inv-loop μ-loop
 loop-holds c =
-    let s = c .before .before .before .before .before .args in
-    (search needs, c .nothing .ensures ∙ ap readOf (scan-start (candidateAt long (s .s) (windowOf 14 (s .samples .now))) placeAt))
+    let s = c .before .before .before .before .before .before .before .args in
+    (omega arith, c .nothing .ensures ∙ ap readOf (scan-start (candidateAt long (s .s) (windowOf 14 (s .samples .now))) placeAt))
+
+mul-i : tie.Need-mul-i Inv-loop μ-loop
+mul-i c = omega arith
+
+add-i : tie.Need-add-i Inv-loop μ-loop
+add-i c = omega arith
+
+mul-says : tie.Need-mul-says Inv-loop μ-loop
+mul-says c = let z = ready-sizes _ _ _ _ _ _ (c .before .before .before .before .before .before .before .before .before .pre .0) in omega (arith, z .clear)
+
+shared-slice-read-says : tie.Need-shared-slice-read-says Inv-loop μ-loop
+shared-slice-read-says c = let z = ready-sizes _ _ _ _ _ _ (c .before .before .before .before .before .before .before .before .before .before .pre .0) in omega (arith, z .clear)
+
+add-says : tie.Need-add-says Inv-loop μ-loop
+add-says c = let z = ready-sizes _ _ _ _ _ _ (c .before .before .before .before .before .before .before .before .before .before .pre .0) in omega (arith, z .clear)
+
+mul-says-2 : tie.Need-mul-says-2 Inv-loop μ-loop
+mul-says-2 c = let z = ready-sizes _ _ _ _ _ _ (c .before .before .before .before .before .before .before .before .before .before .pre .0) in omega (arith, z .clear)
+
+shared-slice-read-says-2 : tie.Need-shared-slice-read-says-2 Inv-loop μ-loop
+shared-slice-read-says-2 c = let z = ready-sizes _ _ _ _ _ _ (c .before .before .before .before .before .before .before .before .before .before .before .pre .0) in omega (arith, z .clear)
+
+says-requires : tie.Need-says-requires Inv-loop μ-loop
+says-requires c κs = search needs
 
 at-requires : tie.Need-at-requires Inv-loop μ-loop
 at-requires c κs = search needs
 
 read-at-requires : tie.Need-read-at-requires Inv-loop μ-loop
 read-at-requires c κs =
-    let s = c .before .before .before .before .before .before .before .before in
-    (s .pre .0, subst (λ (p : Place). listed 31 p ≡ true) (sym (c .at .ensures)) (listed-at 31 (c .before .before .loop .k) (omega arith)), s .pre .1)
+    let s = c .before .before .before .before .before .before .before .before .before .before .before .before .before .before in
+    (s .pre .0, subst (λ (p : Place). listed 31 p ≡ true) (sym (c .at .ensures)) (listed-at 31 (c .before .before .before .before .before .before .loop .k) (omega (arith, c .before .before .before .before .before .loop-test .taken))), s .pre .1)
 
 choose-requires : tie.Need-choose-requires Inv-loop μ-loop
 choose-requires c κs = search needs
@@ -53,15 +79,21 @@ loop-less c = omega arith
 
 loop-again : tie.Need-loop-again Inv-loop μ-loop
 loop-again c =
-    let l = c .before .before .before .before .loop in
-    let s = c .before .before .before .before .before .before .before .before .before .before .args in
-    let f = candidateAt long (s .s) (windowOf 14 (s .samples .now)) in
-    (omega arith, chosen-more f placeAt (l .k) (l .inv .1) (c .before .read-at .ensures ∙ ap (λ (p : Place). readOf (f p)) (c .before .before .at .ensures)) (c .choose .ensures))
+    let l = c .before .before .before .before .before .loop in
+    let s = c .before .before .before .before .before .before .before .before .before .before .before .before .before in
+    let h = c .before .before .before .before .loop-test .taken in
+    let f = candidateAt long (s .args .s) (windowOf 14 (s .args .samples .now)) in (
+      omega arith,
+      ⊎-elim
+          (λ w. w .4 ∙ chosen-more f placeAt (l .k) (l .inv .1) (w .2 .ensures ∙ ap (λ (p : Place). readOf (f p)) (w .1 .ensures)) (w .3 .ensures))
+          (λ w. w .1 ∙ chosen-none f placeAt (l .k) (l .inv .1) (skipped _ _ _ _ _ _ (s .pre .0) (s .args .s) (l .k) h (c .before .says .ensures) (w .0 .left)))
+          (c .if1 .came),
+    )
 
 returns : tie.Need-returns Inv-loop μ-loop
 returns c =
     let l = c .before .loop in
-    let s = c .before .before .before .before .before .before .before .args in
+    let s = c .before .before .before .before .before .before .before .before .before .args in
     let e : l .k ≡ 248 = omega arith in
     l .inv .1 ∙ ap (λ (k : ℕ). readOf (scan (candidateAt long (s .s) (windowOf 14 (s .samples .now))) none (tabulate k placeAt))) e ∙ ap readOf (best-is (s .s) (windowOf 14 (s .samples .now)))
 
@@ -73,6 +105,14 @@ find-spec =
     μ-loop
     nothing-requires
     loop-holds
+    mul-i
+    add-i
+    mul-says
+    shared-slice-read-says
+    add-says
+    mul-says-2
+    shared-slice-read-says-2
+    says-requires
     at-requires
     read-at-requires
     choose-requires

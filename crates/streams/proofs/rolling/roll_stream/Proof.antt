@@ -70,8 +70,8 @@ loop-holds c =
       c .before .word-at .ensures ∙ ap (λ (i : ℕ). value (bitAt xs) i 32) p,
       c .word-at2 .ensures ∙ ap (λ (i : ℕ). value (bitAt xs) i 32) q,
       c .before .before .crc24 .ensures
-      ∙ ap remainder (c .before .before .before .before .before .copy-bits .ensures)
-      ∙ ap (λ (i : ℕ). remainder (messageAt xs 14 i)) (sym (add-zero (144 * s))),
+          ∙ ap remainder (c .before .before .before .before .before .copy-bits .ensures)
+          ∙ ap (λ (i : ℕ). remainder (messageAt xs 14 i)) (sym (add-zero (144 * s))),
       subst (λ (i : ℕ). Done 0 (crcOf xs) 248 (now (a .args .crcs)) i) (sym (add-zero (31 * s))) (a .pre .2),
     )
 
@@ -140,7 +140,7 @@ loop-again c =
       l .inv .2,
       t ∙ ap (λ (i : ℕ). remainder (messageAt xs 14 i)) q,
       subst (λ (i : ℕ). Done 0 (crcOf xs) 248 (set (l .crcs) (31 * s + b) (c .roll .result)) i) r
-      (done-more _ _ _ _ _ _ (omega (arith, a .pre .1)) (l .inv .4) (crc-place xs s b (omega arith) t)),
+          (done-more _ _ _ _ _ _ (omega (arith, a .pre .1)) (l .inv .4) (crc-place xs s b (omega arith) t)),
     )
 
 same-length : tie.Need-same-length Inv-loop μ-loop

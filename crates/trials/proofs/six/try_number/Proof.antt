@@ -36,15 +36,31 @@ returns-5 : tie.Need-returns-5
 unfolding tryNumber
 returns-5 c =
     let t = c .before .before .before .before in
-    simp (eq-eqb _ _ (t .before .before .before .if1 .left), eq-eqb _ _ (t .before .before .if2 .left), le-leb _ _ (t .before .if3 .left), le-leb _ _ (t .if4 .left),
-    ← c .before .before .before .lies-inside .ensures, ← c .before .before .lies-inside2 .ensures, ← c .before .both .ensures, c .if5 .taken)
+    simp (
+      eq-eqb _ _ (t .before .before .before .if1 .left),
+      eq-eqb _ _ (t .before .before .if2 .left),
+      le-leb _ _ (t .before .if3 .left),
+      le-leb _ _ (t .if4 .left),
+      ← c .before .before .before .lies-inside .ensures,
+      ← c .before .before .lies-inside2 .ensures,
+      ← c .before .both .ensures,
+      c .if5 .taken,
+    )
 
 returns-6 : tie.Need-returns-6
 unfolding tryNumber
 returns-6 c =
     let t = c .before .before .before .before in
-    simp (eq-eqb _ _ (t .before .before .before .if1 .left), eq-eqb _ _ (t .before .before .if2 .left), le-leb _ _ (t .before .if3 .left), le-leb _ _ (t .if4 .left),
-    ← c .before .before .before .lies-inside .ensures, ← c .before .before .lies-inside2 .ensures, ← c .before .both .ensures, c .if5 .left)
+    simp (
+      eq-eqb _ _ (t .before .before .before .if1 .left),
+      eq-eqb _ _ (t .before .before .if2 .left),
+      le-leb _ _ (t .before .if3 .left),
+      le-leb _ _ (t .if4 .left),
+      ← c .before .before .before .lies-inside .ensures,
+      ← c .before .before .lies-inside2 .ensures,
+      ← c .before .both .ensures,
+      c .if5 .left,
+    )
 
 pub try-number-spec : {M : Type 1} → statement M
 try-number-spec =

@@ -1,0 +1,27 @@
+// The remainders at all places, and what is to be read where.
+use streams::rolling::compute_crcs;
+ghost use mathlib.Core.Path.{_≡_};
+ghost use mathlib.Core.Bool.{_||_};
+ghost use mathlib.Core.List.{_++_};
+ghost use lib.Dec.{ltb};
+ghost use lib.ListN.{length};
+ghost use Rattle.streams.specs.Rolling.{crcsOf};
+
+// Those of the coherent streams, then those of the noncoherent ones.
+pub fn all_crcs(coherent: &[u8], noncoherent: &[u8], crcs: &mut [u32])
+    requires { ⌜ (length (now coherent) ≡ 144) × (length (now noncoherent) ≡ 144) × (length (now crcs) ≡ 496) ⌝ }
+    ensures { λ _. ⌜ now (crcs .exit) ≡ crcsOf (now (coherent .entry)) ++ crcsOf (now (noncoherent .entry)) ⌝ }
+{
+    compute_crcs(coherent, &mut crcs[0..248]);
+    compute_crcs(noncoherent, &mut crcs[248..496]);
+}
+
+// Whether one of two codes says something: elsewhere no trial passes.
+pub fn says(c: u32, d: u32) -> bool
+    ensures { λ r. ⌜ r ≡ ltb c 65536 || ltb d 65536 ⌝ }
+{
+    if c < 0x10000 {
+        return true;
+    }
+    d < 0x10000
+}

@@ -3,3 +3,4 @@ pub mod Corrected
 pub mod Avr
 pub mod Message
 pub mod Inner
+pub mod Step

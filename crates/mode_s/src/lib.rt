@@ -1,6 +1,6 @@
 // Mode S: the remainder of a message, its header, its repair, and its text.
 pub mod avr;
-mod bytes;
+pub mod bytes;
 pub mod crc;
 pub mod header;
 mod inside;

@@ -32,38 +32,38 @@ use Rattle.receiver.specs.Inner.{Told}
 
 -- ---- how they are made
 
-crcs-length : (xs : List ℕ) → length (crcsOf xs) ≡ 248
+crcs-length : (xs : List ℕ) → length (crcsOf xs) ≡ 256
 unfolding crcsOf
-crcs-length xs = length-tabulate 248 (crcOf xs)
+crcs-length xs = length-tabulate 256 (crcOf xs)
 
-pub both-length : (a b : List ℕ) → length (crcsOf a ++ crcsOf b) ≡ 496
+pub both-length : (a b : List ℕ) → length (crcsOf a ++ crcsOf b) ≡ 512
 both-length a b = length-append (crcsOf a) (crcsOf b) ∙ ap₂ (λ (x y : ℕ). x + y) (crcs-length a) (crcs-length b)
 
 pub codes-length : (crcs : List ℕ) → length (codesOf crcs) ≡ length crcs
 unfolding codesOf
 codes-length crcs = length-tabulate (length crcs) (λ (i : ℕ). codeOf (clearingAny 14 (getD crcs i 0)))
 
-crcs-done : (streams crcs : List ℕ) → length streams ≡ 144 → length crcs ≡ 248 → crcsInto streams crcs ≡ (0, crcsOf streams)
+crcs-done : (streams crcs : List ℕ) → length streams ≡ 144 → length crcs ≡ 256 → crcsInto streams crcs ≡ (0, crcsOf streams)
 unfolding crcsInto
 crcs-done streams crcs a b = simp (eq-eqb _ _ a, eq-eqb _ _ b)
 
 -- both are stored one after the other
-pub crcs-stored : (xs a b p q : List ℕ) {m n : ℕ} → length xs ≡ 496 → length a ≡ 144 → length b ≡ 144
-    → _≡_ {A = ℕ × List ℕ} (m, p) (crcsInto a (take 248 xs))
-    → _≡_ {A = ℕ × List ℕ} (n, q) (crcsInto b (take 248 (drop 248 (p ++ drop 248 xs))))
-    → take 248 (p ++ drop 248 xs) ++ (q ++ drop 248 (drop 248 (p ++ drop 248 xs))) ≡ crcsOf a ++ crcsOf b
+pub crcs-stored : (xs a b p q : List ℕ) {m n : ℕ} → length xs ≡ 512 → length a ≡ 144 → length b ≡ 144
+    → _≡_ {A = ℕ × List ℕ} (m, p) (crcsInto a (take 256 xs))
+    → _≡_ {A = ℕ × List ℕ} (n, q) (crcsInto b (take 256 (drop 256 (p ++ drop 256 xs))))
+    → take 256 (p ++ drop 256 xs) ++ (q ++ drop 256 (drop 256 (p ++ drop 256 xs))) ≡ crcsOf a ++ crcsOf b
 crcs-stored xs a b p q h ha hb e f =
-    let d : p ≡ crcsOf a = ap (λ (x : ℕ × List ℕ). x .1) (e ∙ crcs-done a (take 248 xs) ha (simp length-take (omega arith))) in
-    let l : length p ≡ 248 = ap length d ∙ crcs-length a in
-    let r : drop 248 (p ++ drop 248 xs) ≡ drop 248 xs = drop-at p (drop 248 xs) 248 l in
+    let d : p ≡ crcsOf a = ap (λ (x : ℕ × List ℕ). x .1) (e ∙ crcs-done a (take 256 xs) ha (simp length-take (omega arith))) in
+    let l : length p ≡ 256 = ap length d ∙ crcs-length a in
+    let r : drop 256 (p ++ drop 256 xs) ≡ drop 256 xs = drop-at p (drop 256 xs) 256 l in
     let g : q ≡ crcsOf b
     = ap (λ (x : ℕ × List ℕ). x .1)
-    (f ∙ crcs-done b (take 248 (drop 248 (p ++ drop 248 xs))) hb (rw r (simp (length-take, length-drop) (omega arith)))) in
-    let k : length (drop 248 xs) ≤ 248 = simp length-drop (omega arith) in
-    rw (take-at p (drop 248 xs) 248 l, r, drop-of-length-le (drop 248 xs) k, append-nil q, d, g)
+    (f ∙ crcs-done b (take 256 (drop 256 (p ++ drop 256 xs))) hb (rw r (simp (length-take, length-drop) (omega arith)))) in
+    let k : length (drop 256 xs) ≤ 256 = simp length-drop (omega arith) in
+    rw (take-at p (drop 256 xs) 256 l, r, drop-of-length-le (drop 256 xs) k, append-nil q, d, g)
 
 -- the codes of the remainders of two slicers' streams
-pub codes-are : (a b crcs codes out : List ℕ) {n : ℕ} → crcs ≡ crcsOf a ++ crcsOf b → length codes ≡ 496
+pub codes-are : (a b crcs codes out : List ℕ) {n : ℕ} → crcs ≡ crcsOf a ++ crcsOf b → length codes ≡ 512
     → _≡_ {A = ℕ × List ℕ} (n, out) (codesInto crcs codes) → out ≡ codesOf crcs
 unfolding codesInto
 codes-are a b crcs codes out e h q =
@@ -73,10 +73,10 @@ codes-are a b crcs codes out e h q =
 -- ---- what they say of a place
 
 abbrev pub numbered : Place → ℕ
-numbered p = 31 * (2 * p .phase + p .symbol) + (p .bit - 1)
+numbered p = 8 * p .bit + 2 * p .phase + p .symbol
 
 module _ (xs : List ℕ) (p : Place) (h : listed 31 p ≡ true) where
-  number-lt : numbered p < 248
+  number-lt : numbered p < 256
   number-lt = let l = listed-gives 31 p h in omega (arith, l .from, l .to, l .phase, l .symbol)
 
   -- the remainder at a place
@@ -86,9 +86,9 @@ module _ (xs : List ℕ) (p : Place) (h : listed 31 p ≡ true) where
       let l = listed-gives 31 p h in
       let n = numbered p in
       let s = 2 * p .phase + p .symbol in
-      let e : 144 * (n / 31) + (1 + n % 31) ≡ 144 * s + p .bit = omega (arith, l .from, l .to) in
+      let e : 144 * (n % 8) + n / 8 ≡ 144 * s + p .bit = omega (arith, l .phase, l .symbol) in
       let q : 18 * s ≡ 36 * p .phase + 18 * p .symbol = omega arith in
-      getD-tabulate 248 (crcOf xs) n 0 number-lt
+      getD-tabulate 256 (crcOf xs) n 0 number-lt
       ∙ ap (λ (o : ℕ). remainder (messageAt xs 14 o)) e
       ∙ ap remainder (message-stream xs s (p .bit) (omega (arith, l .to)))
       ∙ ap (λ (o : ℕ). remainder (messageAt (take 18 (drop o xs)) 14 (p .bit))) q
@@ -102,15 +102,15 @@ module _ (coherent noncoherent crcs codes : List ℕ) (e : crcs ≡ crcsOf coher
   first-crc =
       let l = number-lt coherent p h in
       ap (λ (x : List ℕ). getD x (numbered p) 0) e
-      ∙ sym (getD-take 248 (crcsOf coherent ++ crcsOf noncoherent) (numbered p) 0 l)
-      ∙ ap (λ (x : List ℕ). getD x (numbered p) 0) (take-at (crcsOf coherent) (crcsOf noncoherent) 248 (crcs-length coherent))
+      ∙ sym (getD-take 256 (crcsOf coherent ++ crcsOf noncoherent) (numbered p) 0 l)
+      ∙ ap (λ (x : List ℕ). getD x (numbered p) 0) (take-at (crcsOf coherent) (crcsOf noncoherent) 256 (crcs-length coherent))
       ∙ crc-there coherent p h
 
-  second-crc : getD crcs (248 + numbered p) 0 ≡ remainder (messageAt (part noncoherent) 14 (p .bit))
+  second-crc : getD crcs (256 + numbered p) 0 ≡ remainder (messageAt (part noncoherent) 14 (p .bit))
   second-crc =
-      ap (λ (x : List ℕ). getD x (248 + numbered p) 0) e
-      ∙ sym (getD-drop 248 (crcsOf coherent ++ crcsOf noncoherent) (numbered p) 0)
-      ∙ ap (λ (x : List ℕ). getD x (numbered p) 0) (drop-at (crcsOf coherent) (crcsOf noncoherent) 248 (crcs-length coherent))
+      ap (λ (x : List ℕ). getD x (256 + numbered p) 0) e
+      ∙ sym (getD-drop 256 (crcsOf coherent ++ crcsOf noncoherent) (numbered p) 0)
+      ∙ ap (λ (x : List ℕ). getD x (numbered p) 0) (drop-at (crcsOf coherent) (crcsOf noncoherent) 256 (crcs-length coherent))
       ∙ crc-there noncoherent p h
 
   code-of : (i : ℕ) → i < length crcs → foundOf (getD codes i 0) ≡ clearingAny 14 (getD crcs i 0)
@@ -120,15 +120,15 @@ module _ (coherent noncoherent crcs codes : List ℕ) (e : crcs ≡ crcsOf coher
       ∙ ap foundOf (getD-tabulate (length crcs) (λ (j : ℕ). codeOf (clearingAny 14 (getD crcs j 0))) i 0 l)
       ∙ any-back (getD crcs i 0)
 
-  module _ (size : length crcs ≡ 496) where
+  module _ (size : length crcs ≡ 512) where
     pub first-found : foundOf (getD codes (numbered p) 0) ≡ clearingAny 14 (remainder (messageAt (part coherent) 14 (p .bit)))
     first-found = code-of (numbered p) (omega (arith, number-lt coherent p h)) ∙ ap (clearingAny 14) first-crc
 
-    pub second-found : foundOf (getD codes (248 + numbered p) 0) ≡ clearingAny 14 (remainder (messageAt (part noncoherent) 14 (p .bit)))
-    second-found = code-of (248 + numbered p) (omega (arith, number-lt coherent p h)) ∙ ap (clearingAny 14) second-crc
+    pub second-found : foundOf (getD codes (256 + numbered p) 0) ≡ clearingAny 14 (remainder (messageAt (part noncoherent) 14 (p .bit)))
+    second-found = code-of (256 + numbered p) (omega (arith, number-lt coherent p h)) ∙ ap (clearingAny 14) second-crc
 
-    pub told-there : {c d : Found} {apart : Bool} {n : ℕ} → n ≡ 18 → c ≡ foundOf (getD codes (numbered p) 0) → d ≡ foundOf (getD codes (248 + numbered p) 0)
-        → apart ≡ not (eqb (getD crcs (numbered p) 0) (getD crcs (248 + numbered p) 0))
+    pub told-there : {c d : Found} {apart : Bool} {n : ℕ} → n ≡ 18 → c ≡ foundOf (getD codes (numbered p) 0) → d ≡ foundOf (getD codes (256 + numbered p) 0)
+        → apart ≡ not (eqb (getD crcs (numbered p) 0) (getD crcs (256 + numbered p) 0))
         → Told (take n (drop (36 * p .phase + 18 * p .symbol) coherent)) (take n (drop (36 * p .phase + 18 * p .symbol) noncoherent)) (p .bit) c d apart
     told-there z x y w =
         rw z (record { first = x ∙ first-found; second = y ∙ second-found; differ = w ∙ rw (first-crc, second-crc) })

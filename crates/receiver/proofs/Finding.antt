@@ -48,8 +48,8 @@ pub record Sizes (symbols : List Float) (coherent noncoherent crcs codes : List 
   pub sums : length symbols ≡ 2304
   pub first : length coherent ≡ 144
   pub second : length noncoherent ≡ 144
-  pub remainders : length crcs ≡ 496
-  pub clear : length codes ≡ 496
+  pub remainders : length crcs ≡ 512
+  pub clear : length codes ≡ 512
 
 module _ (samples symbols : List Float) (coherent noncoherent crcs codes : List ℕ) (ready : Ready samples symbols coherent noncoherent crcs codes) where
   pub ready-sizes : Sizes symbols coherent noncoherent crcs codes
@@ -150,8 +150,8 @@ module _ (samples symbols : List Float) (coherent noncoherent crcs codes : List 
       e ∙ rw (r, c, n) (ap readOf (seen-there samples p s))
 
   -- what clears the two messages is told
-  pub lent-told : {c d : Found} {apart : Bool} → c ≡ foundOf (getD codes (numbered p) 0) → d ≡ foundOf (getD codes (248 + numbered p) 0)
-      → apart ≡ not (eqb (getD crcs (numbered p) 0) (getD crcs (248 + numbered p) 0))
+  pub lent-told : {c d : Found} {apart : Bool} → c ≡ foundOf (getD codes (numbered p) 0) → d ≡ foundOf (getD codes (256 + numbered p) 0)
+      → apart ≡ not (eqb (getD crcs (numbered p) 0) (getD crcs (256 + numbered p) 0))
       → Told (take j (drop at coherent)) (take j (drop at noncoherent)) (p .bit) c d apart
   lent-told =
       told-there coherent noncoherent crcs codes (ready .remainders) (ready .clear) p h
@@ -165,7 +165,7 @@ module _ (samples symbols : List Float) (coherent noncoherent crcs codes : List 
       → clearingAny 14 (remainder (messageAt (stream samples slicer p) 14 (p .bit))) ≡ Nothing
   nothing-clears slicer xs e q z = ap (λ (x : List ℕ). clearingAny 14 (remainder (messageAt x 14 (p .bit)))) (sym e) ∙ sym q ∙ z
 
-  pub none-there : (s : Settings) → foundOf (getD codes (numbered p) 0) ≡ Nothing → foundOf (getD codes (248 + numbered p) 0) ≡ Nothing
+  pub none-there : (s : Settings) → foundOf (getD codes (numbered p) 0) ≡ Nothing → foundOf (getD codes (256 + numbered p) 0) ≡ Nothing
       → candidateAt long s (windowOf 14 samples) p ≡ none
   unfolding candidateAt survivor windowOf bitsAt
   none-there s a b =
@@ -180,16 +180,17 @@ module _ (samples symbols : List Float) (coherent noncoherent crcs codes : List 
 -- the same in the order of the scan
 module _ (samples symbols : List Float) (coherent noncoherent crcs codes : List ℕ) (ready : Ready samples symbols coherent noncoherent crcs codes) where
   pub skipped : (s : Settings) (k : ℕ) {b : Bool} → k < 248
-      → b ≡ (ltb (getD codes (31 * (k % 8) + k / 8) 0) 65536 || ltb (getD codes (248 + (31 * (k % 8) + k / 8)) 0) 65536) → b ≡ false
+      → b ≡ (ltb (getD codes (8 + k) 0) 65536 || ltb (getD codes (264 + k) 0) 65536) → b ≡ false
       → candidateAt long s (windowOf 14 samples) (placeAt k) ≡ none
   unfolding placeAt
   skipped s k h e f =
       let m : k % 8 ≡ k / 2 % 4 * 2 + k % 2 = mod-mul k (lit< tt) (lit< tt) in
-      let i : 31 * (k % 8) + k / 8 ≡ numbered (placeAt k) = omega arith in
+      let i : 8 + k ≡ numbered (placeAt k) = omega arith in
+      let j : 264 + k ≡ 256 + numbered (placeAt k) = omega arith in
       let (x, y) = both-silent _ _ (sym e ∙ f) in
       none-there samples symbols coherent noncoherent crcs codes ready (placeAt k) (listed-at 31 k h) s
       (ap (λ (n : ℕ). foundOf (getD codes n 0)) (sym i) ∙ silent _ x)
-      (ap (λ (n : ℕ). foundOf (getD codes (248 + n) 0)) (sym i) ∙ silent _ y)
+      (ap (λ (n : ℕ). foundOf (getD codes n 0)) (sym j) ∙ silent _ y)
 
 -- ---- the search
 

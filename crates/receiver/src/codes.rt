@@ -9,11 +9,11 @@ ghost use Rattle.streams.specs.Rolling.{crcsOf};
 
 // Those of the coherent streams, then those of the noncoherent ones.
 pub fn all_crcs(coherent: &[u8], noncoherent: &[u8], crcs: &mut [u32])
-    requires { ⌜ (length (now coherent) ≡ 144) × (length (now noncoherent) ≡ 144) × (length (now crcs) ≡ 496) ⌝ }
+    requires { ⌜ (length (now coherent) ≡ 144) × (length (now noncoherent) ≡ 144) × (length (now crcs) ≡ 512) ⌝ }
     ensures { λ _. ⌜ now (crcs .exit) ≡ crcsOf (now (coherent .entry)) ++ crcsOf (now (noncoherent .entry)) ⌝ }
 {
-    compute_crcs(coherent, &mut crcs[0..248]);
-    compute_crcs(noncoherent, &mut crcs[248..496]);
+    compute_crcs(coherent, &mut crcs[0..256]);
+    compute_crcs(noncoherent, &mut crcs[256..512]);
 }
 
 // Whether one of two codes says something: elsewhere no trial passes.

@@ -37,10 +37,10 @@ pub fn read_at<'a>(
     let to = from + 576;
     let at = 36 * phase + 18 * symbol;
     let end = at + 18;
-    let i = 31 * (2 * phase + symbol) + (place.bit - 1);
+    let i = 8 * place.bit + 2 * phase + symbol;
     let c = bit_errors_of(codes[i]);
-    let d = bit_errors_of(codes[248 + i]);
-    let apart = crcs[i] != crcs[248 + i];
+    let d = bit_errors_of(codes[256 + i]);
+    let apart = crcs[i] != crcs[256 + i];
     read_streams(
         samples,
         &symbols[from..to],
@@ -70,8 +70,7 @@ pub fn find<'a>(
     let mut held = nothing();
     let mut k: usize = 0;
     while k < 248 {
-        let i = 31 * (k % 8) + k / 8;
-        if says(codes[i], codes[248 + i]) {
+        if says(codes[8 + k], codes[264 + k]) { // offset 0 is not searched
             let place = Place::at(k);
             let new = read_at(
                 samples,

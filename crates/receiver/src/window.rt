@@ -41,8 +41,8 @@ pub fn best_of(samples: &[f32], symbols: &[f32], s: Settings) -> Read
 {
     let mut coherent = [0u8; 144];
     let mut noncoherent = [0u8; 144];
-    let mut crcs = [0u32; 496];
-    let mut codes = [0u32; 496];
+    let mut crcs = [0u32; 512];
+    let mut codes = [0u32; 512];
     demodulate_rows(symbols, &mut coherent, &mut noncoherent);
     all_crcs(&coherent, &noncoherent, &mut crcs);
     bit_errors_from_crc24s(&crcs, &mut codes);
@@ -56,8 +56,8 @@ pub fn reading_at(samples: &[f32], symbols: &[f32], s: Settings, place: Place) -
 {
     let mut coherent = [0u8; 144];
     let mut noncoherent = [0u8; 144];
-    let mut crcs = [0u32; 496];
-    let mut codes = [0u32; 496];
+    let mut crcs = [0u32; 512];
+    let mut codes = [0u32; 512];
     demodulate_rows(symbols, &mut coherent, &mut noncoherent);
     all_crcs(&coherent, &noncoherent, &mut crcs);
     bit_errors_from_crc24s(&crcs, &mut codes);

@@ -9,13 +9,14 @@ use Rattle.lists.specs.From.{tabulate}
 use Rattle.annex10.specs.Remainder.{remainder}
 use Rattle.streams.specs.Streams.{messageAt}
 
--- eight streams of 144 bits: number i is stream i / 31, bit offset 1 + i % 31
+-- eight streams of 144 bits: number i is bit offset i / 8 of stream i % 8
 unfoldable pub crcOf : List ℕ → ℕ → ℕ
-crcOf streams i = remainder (messageAt streams 14 (144 * (i / 31) + (1 + i % 31)))
+crcOf streams i = remainder (messageAt streams 14 (144 * (i % 8) + i / 8))
 
+-- bit offsets 0 to 31
 unfoldable pub crcsOf : List ℕ → List ℕ
-crcsOf streams = tabulate 248 (crcOf streams)
+crcsOf streams = tabulate 256 (crcOf streams)
 
--- 144 bytes, else 2; 248 remainders, else 3
+-- 144 bytes, else 2; 256 remainders, else 3
 unfoldable pub crcsInto : List ℕ → List ℕ → ℕ × List ℕ
-crcsInto streams crcs = cond (eqb (length streams) 144) (cond (eqb (length crcs) 248) (0, crcsOf streams) (3, crcs)) (2, crcs)
+crcsInto streams crcs = cond (eqb (length streams) 144) (cond (eqb (length crcs) 256) (0, crcsOf streams) (3, crcs)) (2, crcs)

@@ -20,7 +20,7 @@ pub fn byte_at(bytes: &[u8], j: usize) -> u8
 
 // As many bytes as `message` has, from a bit offset on.
 pub fn copy_bits(bytes: &[u8], offset: usize, message: &mut [u8])
-    requires { ⌜ (offset + 8 * length (now message) ≤ 8 * length (now bytes)) × (length (now bytes) ≤ 144) ⌝ }
+    requires { ⌜ (offset + 8 * length (now message) ≤ 8 * length (now bytes)) × (length (now bytes) ≤ 18) ⌝ }
     ensures { λ _. ⌜ now (message .exit) ≡ messageAt (now (bytes .entry)) (length (now (message .entry))) offset ⌝ }
 {
     for k in 0..message.len() {

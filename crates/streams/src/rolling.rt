@@ -1,14 +1,15 @@
 // The remainders at all bit offsets of streams: each from the one before it, by the bit that leaves and the bit that enters.
-use crate::bits::copy_bits;
 use crate::bits::word_at;
-use mode_s::crc::crc24;
+use mode_s::bytes::BYTES;
+use mode_s::crc::crc24_step;
 ghost use mathlib.Core.Path.{_≡_};
 ghost use Prim.Native.Nat.{_+_, _*_, _^_, _<_};
 ghost use lib.ListN.{length, replicate};
 ghost use Rattle.annex10.specs.Remainder.{bring, divide};
 ghost use Rattle.lists.proofs.Table.{Done};
-ghost use Rattle.streams.specs.Rolling.{crcOf, crcsInto};
-ghost use Rattle.streams.specs.Inner.{next};
+ghost use Rattle.mode_s.specs.Inner.{ByteTable};
+ghost use Rattle.streams.specs.Rolling.{crcOf, crcsOf, crcsInto};
+ghost use Rattle.streams.specs.Inner.{next, First, wordsAt};
 
 // Times x.
 fn doubled(crc: u32) -> u32
@@ -51,35 +52,69 @@ fn roll(crc: u32, leaving: u32, entering: u32) -> u32
     doubled(crc) ^ (entered(entering) ^ left(leaving))
 }
 
-// Those of stream s. The first four bytes have the bits that leave, the last four those that enter.
-fn roll_stream(streams: &[u8], s: usize, crcs: &mut [u32])
-    requires { ⌜ (length (now streams) ≡ 144) × (s < 8) × Done 0 (crcOf (now streams)) 248 (now crcs) (31 * s) ⌝ }
-    ensures { λ _. ⌜ Done 0 (crcOf (now (streams .entry))) 248 (now (crcs .exit)) (31 * s + 31) ⌝ }
+// One byte more of each of the eight messages at bit offset 0.
+fn step_row(table: &[u32; 256], streams: &[u8], n: usize, crcs: &mut [u32])
+    requires { ⌜ ByteTable (now table) × (length (now streams) ≡ 144) × (n < 14) × First (now streams) n (now crcs) ⌝ }
+    ensures { λ _. ⌜ First (now (streams .entry)) (n + 1) (now (crcs .exit)) ⌝ }
 {
-    let mut message = [0u8; 14];
-    copy_bits(streams, 144 * s, &mut message);
-    let mut crc = crc24(&message);
-    let leaving = word_at(streams, 18 * s);
-    let entering = word_at(streams, 18 * s + 14);
-    for b in 0..31 {
-        crc = roll(crc, (leaving >> (31 - b)) & 1, (entering >> (31 - b)) & 1);
-        crcs[31 * s + b] = crc;
+    for s in 0..8 {
+        crcs[s] = crc24_step(table, crcs[s], streams[18 * s + n]);
     }
 }
 
-// The remainders at bit offsets 1 to 31 of eight streams that lie one after the other, stream by stream.
-// Refused: 2 where the streams have not 144 bytes, 3 where there are not 248 numbers for the remainders.
+// The remainders at bit offset 0. The streams take their steps in turn: no step waits for the one before it.
+fn first_row(table: &[u32; 256], streams: &[u8], crcs: &mut [u32])
+    requires { ⌜ ByteTable (now table) × (length (now streams) ≡ 144) × (length (now crcs) ≡ 256) ⌝ }
+    ensures { λ _. ⌜ Done 0 (crcOf (now (streams .entry))) 256 (now (crcs .exit)) 8 ⌝ }
+{
+    for s in 0..8 {
+        crcs[s] = 0;
+    }
+    for n in 0..14 {
+        step_row(table, streams, n, crcs);
+    }
+}
+
+// The 32 bits of each stream from byte n on.
+fn words_at(streams: &[u8], n: usize) -> [u32; 8]
+    requires { ⌜ (length (now streams) ≡ 144) × (n < 15) ⌝ }
+    ensures { λ r. ⌜ r ≡ wordsAt (now (streams .entry)) n ⌝ }
+{
+    let mut words = [0u32; 8];
+    for s in 0..8 {
+        words[s] = word_at(streams, 18 * s + n);
+    }
+    words
+}
+
+// All rows behind the first: the first four bytes of a stream have the bits that leave, the last four those that enter.
+fn roll_rows(streams: &[u8], crcs: &mut [u32])
+    requires { ⌜ (length (now streams) ≡ 144) × Done 0 (crcOf (now streams)) 256 (now crcs) 8 ⌝ }
+    ensures { λ _. ⌜ now (crcs .exit) ≡ crcsOf (now (streams .entry)) ⌝ }
+{
+    let leaving = words_at(streams, 0);
+    let entering = words_at(streams, 14);
+    for o in 1..32 {
+        for s in 0..8 {
+            let i = 8 * o + s;
+            let e = 32 - o;
+            crcs[i] = roll(crcs[i - 8], (leaving[s] >> e) & 1, (entering[s] >> e) & 1);
+        }
+    }
+}
+
+// The remainders at bit offsets 0 to 31 of eight streams that lie one after the other, offset by offset.
+// Refused: 2 where the streams have not 144 bytes, 3 where there are not 256 numbers for the remainders.
 pub fn compute_crcs(streams: &[u8], crcs: &mut [u32]) -> u32
     ensures { λ r. ⌜ (r, now (crcs .exit)) ≡ crcsInto (now (streams .entry)) (now (crcs .entry)) ⌝ }
 {
     if streams.len() != 144 {
         return 2;
     }
-    if crcs.len() != 248 {
+    if crcs.len() != 256 {
         return 3;
     }
-    for s in 0..8 {
-        roll_stream(streams, s, crcs);
-    }
+    first_row(&BYTES, streams, crcs);
+    roll_rows(streams, crcs);
     0
 }

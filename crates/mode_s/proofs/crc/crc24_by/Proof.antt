@@ -1,16 +1,15 @@
 -- `mode_s::crc::crc24_by` meets its contract. The loop's invariant: crc is the remainder of the first i bytes.
 -- Assumes nothing.
-use Prim.Native.Nat.{_-_, _/_, _^_, _≤_, _<_}
+use Prim.Native.Nat.{_-_, _≤_}
 use mathlib.Core.Path.{_≡_, sym, ap, _∙_}
 use borrow.Author.Needs.{needs}
 use native.Mathlib.Omega.{arith}
-use lib.ListN.{length, take, getD}
+use lib.ListN.{length, take}
 use lib.Seq.{take-all}
-use lib.Bits.{bitXor}
 use denote.Ref.{now}
 use Rattle.annex10.specs.Remainder.{remainder}
-use Rattle.mode_s.proofs.Turn.{table-turn, table-index}
 use Rattle.annex10.proofs.Bytewise.{remainder-nil}
+use Rattle.mode_s.proofs.Turn.{one-more}
 use Rattle.mode_s.proofs.crc.crc24_by.Statement.{statement}
 use Rattle.mode_s.proofs.crc.crc24_by.Tie as tie
 
@@ -23,27 +22,11 @@ abbrev μ-loop : tie.MeasureT-loop
 loop-holds : tie.Need-loop-holds Inv-loop μ-loop
 loop-holds c = (search needs, sym remainder-nil)
 
-shared-slice-read-top : tie.Need-shared-slice-read-top Inv-loop μ-loop
-shared-slice-read-top c = omega arith
+shared-slice-read-crc24-step : tie.Need-shared-slice-read-crc24-step Inv-loop μ-loop
+shared-slice-read-crc24-step c = omega arith
 
-cast-top : tie.Need-cast-top Inv-loop μ-loop
-cast-top c = omega (arith, c .shared-slice-known .given (c .before .before .loop .i))
-
-index : (c : tie.After-shared-slice-known Inv-loop μ-loop)
-    → bitXor (c .before .before .loop .crc / 2 ^ 16) (getD (now (c .before .before .before .args .bytes)) (c .before .before .loop .i) 0) < 2 ^ 8
-index c =
-    let l = c .before .before .loop in
-    let s = now (c .before .before .before .args .bytes) in
-    table-index (l .crc) (getD s (l .i) 0) (take (l .i) s) (l .inv .1) (c .shared-slice-known .given (l .i) .fits)
-
-cast-top-2 : tie.Need-cast-top-2 Inv-loop μ-loop
-cast-top-2 c = omega (arith, index c)
-
-mul-crc : tie.Need-mul-crc Inv-loop μ-loop
-mul-crc c = omega (arith, index c)
-
-element-copy-out-crc : tie.Need-element-copy-out-crc Inv-loop μ-loop
-element-copy-out-crc c = index c
+crc24-step-requires : tie.Need-crc24-step-requires Inv-loop μ-loop
+crc24-step-requires c κs = search needs
 
 add-i : tie.Need-add-i Inv-loop μ-loop
 add-i c = omega arith
@@ -54,14 +37,15 @@ loop-less c = omega arith
 loop-again : tie.Need-loop-again Inv-loop μ-loop
 loop-again c =
     let l = c .before .before .before .loop in
-    let a = c .before .before .before .before in
-    let s = now (a .args .bytes) in
-    let t = bitXor (l .crc / 2 ^ 16) (getD s (l .i) 0) in
-    (omega arith, table-turn s (l .i) (l .crc) (getD (now (a .args .table)) t 0) (c .before .before .loop-test .taken) (l .inv .1) (a .pre .entry t (index (c .before))))
+    let a = c .before .before .before .before .before in (
+      omega arith,
+      c .crc24-step .ensures
+          ∙ one-more (now (a .args .table)) (a .pre) (now (a .args .bytes)) (l .i) (l .crc) (c .before .before .loop-test .taken) (c .before .shared-slice-known2 .given (l .i) .fits) (l .inv .1),
+    )
 
 returns : tie.Need-returns Inv-loop μ-loop
 returns c =
-    c .before .loop .inv .1 ∙ ap remainder (take-all (c .before .loop .i) (now (c .before .before .args .bytes)) (c .loop-test .left))
+    c .before .loop .inv .1 ∙ ap remainder (take-all (c .before .loop .i) (now (c .before .before .before .args .bytes)) (c .loop-test .left))
 
 pub crc24-by-spec : {M : Type 1} → statement M
 crc24-by-spec =
@@ -70,11 +54,8 @@ crc24-by-spec =
     Inv-loop
     μ-loop
     loop-holds
-    shared-slice-read-top
-    cast-top
-    cast-top-2
-    mul-crc
-    element-copy-out-crc
+    shared-slice-read-crc24-step
+    crc24-step-requires
     add-i
     loop-less
     loop-again

@@ -36,11 +36,8 @@ loop-holds c =
     let s = c .before .before .before .before .before .before .before .args in
     (omega arith, c .nothing .ensures ∙ ap readOf (scan-start (candidateAt long (s .s) (windowOf 14 (s .samples .now))) placeAt))
 
-mul-i : tie.Need-mul-i Inv-loop μ-loop
-mul-i c = omega arith
-
-add-i : tie.Need-add-i Inv-loop μ-loop
-add-i c = omega arith
+add-says : tie.Need-add-says Inv-loop μ-loop
+add-says c = let z = ready-sizes _ _ _ _ _ _ (c .before .before .before .before .before .before .before .before .before .pre .0) in omega (arith, z .clear)
 
 mul-says : tie.Need-mul-says Inv-loop μ-loop
 mul-says c = let z = ready-sizes _ _ _ _ _ _ (c .before .before .before .before .before .before .before .before .before .pre .0) in omega (arith, z .clear)
@@ -48,8 +45,8 @@ mul-says c = let z = ready-sizes _ _ _ _ _ _ (c .before .before .before .before 
 shared-slice-read-says : tie.Need-shared-slice-read-says Inv-loop μ-loop
 shared-slice-read-says c = let z = ready-sizes _ _ _ _ _ _ (c .before .before .before .before .before .before .before .before .before .before .pre .0) in omega (arith, z .clear)
 
-add-says : tie.Need-add-says Inv-loop μ-loop
-add-says c = let z = ready-sizes _ _ _ _ _ _ (c .before .before .before .before .before .before .before .before .before .before .pre .0) in omega (arith, z .clear)
+add-says-2 : tie.Need-add-says-2 Inv-loop μ-loop
+add-says-2 c = let z = ready-sizes _ _ _ _ _ _ (c .before .before .before .before .before .before .before .before .before .before .pre .0) in omega (arith, z .clear)
 
 mul-says-2 : tie.Need-mul-says-2 Inv-loop μ-loop
 mul-says-2 c = let z = ready-sizes _ _ _ _ _ _ (c .before .before .before .before .before .before .before .before .before .before .pre .0) in omega (arith, z .clear)
@@ -105,11 +102,10 @@ find-spec =
     μ-loop
     nothing-requires
     loop-holds
-    mul-i
-    add-i
+    add-says
     mul-says
     shared-slice-read-says
-    add-says
+    add-says-2
     mul-says-2
     shared-slice-read-says-2
     says-requires

@@ -29,16 +29,13 @@ add-end : tie.Need-add-end
 add-end c = let s = c .before .before .before .before .before .before in let l = listed-gives 31 (s .args .place) (s .pre .1) in let z = ready-sizes _ _ _ _ _ _ (s .pre .0) in omega (arith, l .from, l .to, l .phase, l .symbol, z .sums, z .first, z .second, z .remainders, z .clear)
 
 mul-i : tie.Need-mul-i
-mul-i c = let s = c .before .before .before .before .before .before in let l = listed-gives 31 (s .args .place) (s .pre .1) in let z = ready-sizes _ _ _ _ _ _ (s .pre .0) in omega (arith, l .from, l .to, l .phase, l .symbol, z .sums, z .first, z .second, z .remainders, z .clear)
-
-add-i : tie.Need-add-i
-add-i c = let s = c .before .before .before .before .before .before in let l = listed-gives 31 (s .args .place) (s .pre .1) in let z = ready-sizes _ _ _ _ _ _ (s .pre .0) in omega (arith, l .from, l .to, l .phase, l .symbol, z .sums, z .first, z .second, z .remainders, z .clear)
+mul-i c = let s = c .before .before .before .before .before .before .before in let l = listed-gives 31 (s .args .place) (s .pre .1) in let z = ready-sizes _ _ _ _ _ _ (s .pre .0) in omega (arith, l .from, l .to, l .phase, l .symbol, z .sums, z .first, z .second, z .remainders, z .clear)
 
 mul-i-2 : tie.Need-mul-i-2
-mul-i-2 c = let s = c .before .before .before .before .before .before in let l = listed-gives 31 (s .args .place) (s .pre .1) in let z = ready-sizes _ _ _ _ _ _ (s .pre .0) in omega (arith, l .from, l .to, l .phase, l .symbol, z .sums, z .first, z .second, z .remainders, z .clear)
+mul-i-2 c = let s = c .before .before .before .before .before .before .before in let l = listed-gives 31 (s .args .place) (s .pre .1) in let z = ready-sizes _ _ _ _ _ _ (s .pre .0) in omega (arith, l .from, l .to, l .phase, l .symbol, z .sums, z .first, z .second, z .remainders, z .clear)
 
-sub-i : tie.Need-sub-i
-sub-i c = let s = c .before .before .before .before .before .before .before in let l = listed-gives 31 (s .args .place) (s .pre .1) in let z = ready-sizes _ _ _ _ _ _ (s .pre .0) in omega (arith, l .from, l .to, l .phase, l .symbol, z .sums, z .first, z .second, z .remainders, z .clear)
+add-i : tie.Need-add-i
+add-i c = let s = c .before .before .before .before .before .before .before in let l = listed-gives 31 (s .args .place) (s .pre .1) in let z = ready-sizes _ _ _ _ _ _ (s .pre .0) in omega (arith, l .from, l .to, l .phase, l .symbol, z .sums, z .first, z .second, z .remainders, z .clear)
 
 add-i-2 : tie.Need-add-i-2
 add-i-2 c = let s = c .before .before .before .before .before .before .before in let l = listed-gives 31 (s .args .place) (s .pre .1) in let z = ready-sizes _ _ _ _ _ _ (s .pre .0) in omega (arith, l .from, l .to, l .phase, l .symbol, z .sums, z .first, z .second, z .remainders, z .clear)
@@ -139,9 +136,8 @@ read-at-spec =
     add-at
     add-end
     mul-i
-    add-i
     mul-i-2
-    sub-i
+    add-i
     add-i-2
     mul-bit-errors-of
     shared-slice-read-bit-errors-of

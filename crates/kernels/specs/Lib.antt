@@ -1,3 +1,4 @@
 pub mod Symbols
 pub mod Slices
 pub mod Powers
+pub mod Both

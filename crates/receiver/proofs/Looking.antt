@@ -1,5 +1,5 @@
 -- What is read at a place, from the parts that are lent for it.
---     power-is, noise-is     the powers of a message
+--     power-is, both-is      the powers of a message
 --     message-is             the named slicer's bits, repaired
 -- Assumes nothing.
 use mathlib.Core.Path.{_≡_, ap, _∙_}
@@ -20,8 +20,10 @@ use Rattle.place.specs.Part.{rowRefusal, symbolsFor, samplesFor, streamsRefusal
 use Rattle.place.proofs.Taken.{symbols-long, samples-long, part-done, part-long}
 use Rattle.kernels.specs.declared.power.Power.{Power}
 use Rattle.kernels.specs.declared.power.Power.the-variants.{Is}
-use Rattle.kernels.specs.Powers.{powerOf, noiseOf, powerAt, noiseAt}
-use Rattle.kernels.proofs.Measuring.{power-done, noise-done}
+use Rattle.kernels.specs.declared.both.Powers.{Powers}
+use Rattle.kernels.specs.Powers.{powerOf, noiseOf, powerAt}
+use Rattle.kernels.specs.Both.{powersAt}
+use Rattle.kernels.proofs.Measuring.{power-done}
 use Rattle.streams.specs.declared.message.Message.{Message}
 use Rattle.streams.specs.Streams.{messageAt}
 use Rattle.streams.specs.Messages.{partMessage}
@@ -39,11 +41,14 @@ module _ (xs : List Float) (p : Place) (message : List ℕ) {part : List Float} 
       f ∙ ap (λ (x : List Float). powerAt x message) e
       ∙ power-done (symbolsFor 14 xs p) message (symbols-long 14 xs p (omega arith) (row-taken 576 xs p l w)) m
 
-  pub noise-is : length xs ≡ 2310 → within 14 p ≡ true → length message ≡ 14 → part ≡ samplesFor 14 xs p → a ≡ noiseAt part message
-      → a ≡ Is (noiseOf 14 (samplesFor 14 xs p) message)
-  noise-is l w m e f =
-      f ∙ ap (λ (x : List Float). noiseAt x message) e
-      ∙ noise-done (samplesFor 14 xs p) message (samples-long 14 xs p (omega arith) (row-taken 2310 xs p l w)) m
+pub both-is : (samples row : List Float) (p : Place) (message : List ℕ) {a b : List Float} {r : Powers} → length samples ≡ 2310 → length row ≡ 576
+    → within 14 p ≡ true → length message ≡ 14 → a ≡ symbolsFor 14 row p → b ≡ samplesFor 14 samples p → r ≡ powersAt a b message
+    → r ≡ record { number = 0; prompt = powerOf 14 (symbolsFor 14 row p) message; noise = noiseOf 14 (samplesFor 14 samples p) message }
+unfolding powersAt
+both-is samples row p message l k w m ea eb er =
+    let x = symbols-long 14 row p (omega arith) (row-taken 576 row p k w) in
+    let y = samples-long 14 samples p (omega arith) (row-taken 2310 samples p l w) in
+    er ∙ rw (ea, eb, eq-eqb _ _ x, eq-eqb _ _ y, eq-eqb _ _ m)
 
 streams-taken : (c n : List ℕ) (bit : ℕ) → length c ≡ 18 → length n ≡ 18 → bit ≤ 32 → streamsRefusal 14 c n bit ≡ 0
 unfolding streamsRefusal

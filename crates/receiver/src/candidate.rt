@@ -1,7 +1,6 @@
 // The surviving reading of a place, from the row and the streams of its clock phase and symbol offset.
 use crate::message::message_at;
-use crate::powers::noise_power;
-use crate::powers::prompt_power;
+use crate::powers::both_powers;
 use annex10::Found;
 use annex10::Repairs;
 use cn0::estimate_cn0;
@@ -80,8 +79,9 @@ fn candidate_of<'a>(
     let slicer = reading.slicer;
     let repairs = reading.repairs;
     let message = message_at(coherent, noncoherent, bit, slicer, repairs);
-    let prompt = prompt_power(row, place, message);
-    let cn0 = estimate_cn0(prompt, noise_power(samples, place, message));
+    let powers = both_powers(samples, row, place, message);
+    let prompt = powers.prompt;
+    let cn0 = estimate_cn0(prompt, powers.noise);
     Candidate {
         place,
         trial: reading.trial,

@@ -1,6 +1,7 @@
 // The powers of a message at a place, and what they make of it.
+use kernels::both::Powers;
+use kernels::both::postdecode_powers;
 use kernels::power::Power;
-use kernels::power::postdecode_noise_power;
 use kernels::power::postdecode_power;
 use place::Place;
 use place::parts::samples_for_place;
@@ -24,14 +25,12 @@ pub fn prompt_power(row: &[f32], place: Place, message: [u8; 14]) -> f32
     }
 }
 
-// Beside the pulses, from the window's samples.
-pub fn noise_power(samples: &[f32], place: Place, message: [u8; 14]) -> f32
-    requires { ⌜ (length (now samples) ≡ 2310) × (within 14 place ≡ true) ⌝ }
-    ensures { λ r. ⌜ r ≡ noiseOf 14 (samplesFor 14 (now (samples .entry)) place) message ⌝ }
+// In the pulses, and beside them from the window's samples.
+pub fn both_powers(samples: &[f32], row: &[f32], place: Place, message: [u8; 14]) -> Powers
+    requires { ⌜ (length (now samples) ≡ 2310) × (length (now row) ≡ 576) × (within 14 place ≡ true) ⌝ }
+    ensures { λ r. ⌜ r ≡ record { number = 0; prompt = powerOf 14 (symbolsFor 14 (now (row .entry)) place) message; noise = noiseOf 14 (samplesFor 14 (now (samples .entry)) place) message } ⌝ }
 {
-    let part = samples_for_place(samples, place);
-    match postdecode_noise_power(part, &message) {
-        Power::Is(power) => power,
-        Power::Refused(_) => 0.0,
-    }
+    let symbols_part = symbols_for_place(row, place);
+    let samples_part = samples_for_place(samples, place);
+    postdecode_powers(symbols_part, samples_part, &message)
 }

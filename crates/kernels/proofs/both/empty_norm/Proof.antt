@@ -1,0 +1,60 @@
+-- `kernels::both::empty_norm` meets its contract. Assumes nothing.
+use native.Mathlib.Omega.{arith}
+use Rattle.lists.proofs.Bits.{bitAt-lt}
+use Rattle.kernels.proofs.Measuring.{empty-is}
+use borrow.Author.Needs.{needs}
+use Rattle.kernels.proofs.both.empty_norm.Statement.{statement}
+use Rattle.kernels.proofs.both.empty_norm.Tie as tie
+
+bit-at-requires : tie.Need-bit-at-requires
+bit-at-requires c κs = search needs
+
+cast-bit : tie.Need-cast-bit
+cast-bit c = search needs
+
+mul-start : tie.Need-mul-start
+mul-start c = search needs
+
+mul-start-2 : tie.Need-mul-start-2
+mul-start-2 c = search needs
+
+add-start : tie.Need-add-start
+add-start c = search needs
+
+add-start-2 : tie.Need-add-start-2
+add-start-2 c = search needs
+
+complex-at-requires : tie.Need-complex-at-requires
+complex-at-requires c κs = omega (arith, bitAt-lt _ _ (c .bit-at .ensures), c .before .before .before .pre .0, c .before .before .before .pre .2)
+
+add-complex-at : tie.Need-add-complex-at
+add-complex-at c = search needs
+
+complex-at-requires-2 : tie.Need-complex-at-requires-2
+complex-at-requires-2 c κs = omega (arith, bitAt-lt _ _ (c .before .bit-at .ensures), c .before .before .before .before .pre .0, c .before .before .before .before .pre .2)
+
+plus-requires : tie.Need-plus-requires
+plus-requires c κs = search needs
+
+norm-requires : tie.Need-norm-requires
+norm-requires c κs = search needs
+
+returns : tie.Need-returns
+returns c = empty-is _ _ _ (c .before .before .before .before .bit-at .ensures) (c .before .before .before .complex-at .ensures) (c .before .before .complex-at2 .ensures) (c .before .plus .ensures) (c .norm .ensures)
+
+pub empty-norm-spec : {M : Type 1} → statement M
+empty-norm-spec =
+    tie.close
+    (tie.spec
+    bit-at-requires
+    cast-bit
+    mul-start
+    mul-start-2
+    add-start
+    add-start-2
+    complex-at-requires
+    add-complex-at
+    complex-at-requires-2
+    plus-requires
+    norm-requires
+    returns)

@@ -51,6 +51,7 @@ unsafe extern "C" {
     fn probe_header(bytes: *const u8, n: usize, offset: usize, count: u32, j: u8, k: u8) -> Number;
     fn probe_single(crc: u32) -> Found;
     fn probe_double(crc: u32) -> Found;
+    fn probe_codes(crcs: *const u32, n: usize, codes: *mut u32, m: usize) -> u32;
 }
 
 /// The number, and the lent memory as it was left.
@@ -124,4 +125,7 @@ pub fn single(crc: u32) -> Found {
 }
 pub fn double(crc: u32) -> Found {
     unsafe { probe_double(crc) }
+}
+pub fn codes(crcs: &[u32], out: &mut [u32]) -> u32 {
+    unsafe { probe_codes(crcs.as_ptr(), crcs.len(), out.as_mut_ptr(), out.len()) }
 }

@@ -1,6 +1,5 @@
 pub mod Law
 pub mod Carrier
-pub mod Carrier_c
 pub mod Cn0
 pub mod Kernels
 pub mod Khlongrae

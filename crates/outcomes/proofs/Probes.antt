@@ -15,6 +15,7 @@ use Rattle.probes.proofs.samples.probe_cn0 as samples-probe-cn0
 use Rattle.probes.proofs.samples.probe_parabola as samples-probe-parabola
 use Rattle.probes.proofs.tables.probe_single as tables-probe-single
 use Rattle.probes.proofs.tables.probe_double as tables-probe-double
+use Rattle.probes.proofs.tables.probe_codes as tables-probe-codes
 
 pub bits-probe-remainder-fixed : Fixed bits-probe-remainder.ended (answer _) (λ M 𝓤 H. bits-probe-remainder.clauses 𝓤 H) (λ M 𝓤 H. bits-probe-remainder.spec 𝓤 H)
 bits-probe-remainder-fixed =
@@ -70,3 +71,8 @@ pub tables-probe-double-fixed : Fixed tables-probe-double.ended (answer _) (λ M
 tables-probe-double-fixed =
     fixes tables-probe-double.ended _ (answer-set tables-probe-double.ended) refl (λ κs. refl)
     (λ κs a r e. r) (λ κs a y. (y, (tt, tt))) (λ κs a r ws. refl)
+
+pub tables-probe-codes-fixed : Fixed tables-probe-codes.ended (answer _) (λ M 𝓤 H. tables-probe-codes.clauses 𝓤 H) (λ M 𝓤 H. tables-probe-codes.spec 𝓤 H)
+tables-probe-codes-fixed =
+    fixes tables-probe-codes.ended _ (answer-set tables-probe-codes.ended) refl (λ κs. refl)
+    (λ κs a r e. (r, now (e .1 .0))) (λ κs a y. (y .0, (tt, (y .1, tt)))) (λ κs a r ws. refl)

@@ -32,4 +32,4 @@ filter-filter-out-decode-candidate-fixed =
 pub six-try-decode-fixed : Fixed six-try-decode.ended (answer _) (λ M 𝓤 H. six-try-decode.clauses 𝓤 H) (λ M 𝓤 H. six-try-decode.spec 𝓤 H)
 six-try-decode-fixed =
     fixes six-try-decode.ended _ (answer-set six-try-decode.ended) refl (λ κs. refl)
-    (λ κs a r e. r) (λ κs a y. (y, (tt, (tt, (tt, (tt, (tt, (tt, tt)))))))) (λ κs a r ws. refl)
+    (λ κs a r e. r) (λ κs a y. (y, (tt, (tt, (tt, (tt, (tt, (tt, (tt, tt))))))))) (λ κs a r ws. refl)

@@ -1,10 +1,12 @@
-// The lookups of one and of two wrong bits.
+// The lookups of one and of two wrong bits, and of at most two for many remainders.
 use annex10::Found;
 use annex10::Repairs;
+use repairs::bit_errors_from_crc24s;
 use repairs::double_bit_error_from_crc24;
 use repairs::single_bit_error_from_crc24;
 ghost use mathlib.Core.Path.{_≡_};
 ghost use Rattle.annex10.specs.Repair.{clearing};
+ghost use Rattle.repairs.specs.Codes.{codesInto};
 ghost use Rattle.probes.specs.Flat.{flatRepairs, flatFound};
 
 // Zeros where nothing is found.
@@ -67,4 +69,11 @@ pub extern "C" fn probe_double(crc: u32) -> FlatFound
     ensures { λ r. ⌜ r ≡ flatFound (clearing 14 2 crc) ⌝ }
 {
     flat_found(double_bit_error_from_crc24(crc))
+}
+
+#[no_mangle]
+pub extern "C" fn probe_codes(crcs: &[u32], codes: &mut [u32]) -> u32
+    ensures { λ r. ⌜ (r, now (codes .exit)) ≡ codesInto (now (crcs .entry)) (now (codes .entry)) ⌝ }
+{
+    bit_errors_from_crc24s(crcs, codes)
 }

@@ -1,55 +1,58 @@
--- `kernels::slicers::slice_stream` meets its contract. The loop: the first n bytes are stored. Assumes nothing.
-use Prim.Native.Nat.{ℕ, _*_, _-_, _≤_}
-use Rattle.lists.proofs.Table.{Done, done-none, done-more, done-all}
-use Rattle.lists.specs.Bits.{value, packed}
-use Rattle.kernels.specs.Slices.{slicedBit, sliced}
-use native.Mathlib.Omega.{arith}
+-- `kernels::slicers::slice_stream` meets its contract. Assumes nothing.
+use Rattle.kernels.proofs.Joining.{bytes-made}
 use borrow.Author.Needs.{needs}
 use Rattle.kernels.proofs.slicers.slice_stream.Statement.{statement}
 use Rattle.kernels.proofs.slicers.slice_stream.Tie as tie
 
-abbrev Inv-loop : tie.InvT-loop
-Inv-loop row slicer stream out₀ n₀ out n = (n ≤ 18) × Done 0 (λ (k : ℕ). value (slicedBit slicer row stream) (8 * k) 8) 18 out n
+slice-aggregate-take-apart : tie.Need-slice-aggregate-take-apart
+slice-aggregate-take-apart c = search needs
 
-abbrev μ-loop : tie.MeasureT-loop
-μ-loop row slicer stream out₀ n₀ out n = 18 - n
+take-apart-requires : tie.Need-take-apart-requires
+take-apart-requires c κs = search needs
 
-loop-holds : tie.Need-loop-holds Inv-loop μ-loop
-loop-holds c = (search needs, done-none _ _ _ _ (c .before .before .pre .2))
+slice-aggregate-join : tie.Need-slice-aggregate-join
+slice-aggregate-join c = search needs
 
-slice-byte-requires : tie.Need-slice-byte-requires Inv-loop μ-loop
-slice-byte-requires c κs = search needs
+slice-aggregate-join-2 : tie.Need-slice-aggregate-join-2
+slice-aggregate-join-2 c = search needs
 
-slice-write-out : tie.Need-slice-write-out Inv-loop μ-loop
-slice-write-out c = search needs
+join-requires : tie.Need-join-requires
+join-requires c κs = search needs
 
-add-n : tie.Need-add-n Inv-loop μ-loop
-add-n c = search needs
+slice-aggregate-join-3 : tie.Need-slice-aggregate-join-3
+slice-aggregate-join-3 c = search needs
 
-loop-less : tie.Need-loop-less Inv-loop μ-loop
-loop-less c = search needs
+slice-aggregate-join-4 : tie.Need-slice-aggregate-join-4
+slice-aggregate-join-4 c = search needs
 
-loop-again : tie.Need-loop-again Inv-loop μ-loop
-loop-again c = (search needs, done-more _ _ _ _ _ _ (omega arith) (c .before .before .loop .inv .1) (c .slice-byte .ensures))
+join-requires-2 : tie.Need-join-requires-2
+join-requires-2 c κs = search needs
 
-same-length : tie.Need-same-length Inv-loop μ-loop
+slice-aggregate-join-5 : tie.Need-slice-aggregate-join-5
+slice-aggregate-join-5 c = search needs
+
+join-requires-3 : tie.Need-join-requires-3
+join-requires-3 c κs = search needs
+
+same-length : tie.Need-same-length
 same-length c = search needs
 
-returns : tie.Need-returns Inv-loop μ-loop
-unfolding sliced packed
-returns c = done-all _ _ _ _ _ (omega arith) (c .before .loop .inv .1)
+returns : tie.Need-returns
+returns c = bytes-made _ _ _ (c .before .before .before .before .before .before .before .before .before .before .before .before .before .before .before .before .before .before .pre .2) (c .before .before .before .before .before .before .before .before .before .before .before .before .before .before .take-apart .ensures) (c .before .before .before .before .before .before .before .before .before .before .join .ensures) (c .before .before .before .before .before .before .join2 .ensures) (c .before .before .join3 .ensures)
 
 pub slice-stream-spec : {M : Type 1} → statement M
 slice-stream-spec =
     tie.close
     (tie.spec
-    Inv-loop
-    μ-loop
-    loop-holds
-    slice-byte-requires
-    slice-write-out
-    add-n
-    loop-less
-    loop-again
+    slice-aggregate-take-apart
+    take-apart-requires
+    slice-aggregate-join
+    slice-aggregate-join-2
+    join-requires
+    slice-aggregate-join-3
+    slice-aggregate-join-4
+    join-requires-2
+    slice-aggregate-join-5
+    join-requires-3
     same-length
     returns)

@@ -1,4 +1,4 @@
--- The rows that `demodulate` goes through: norms, the bits of both streams in turn, those of one stream, joined to bytes.
+-- The rows that `demodulate` goes through: norms, the bits of both streams in turn, stream after stream, joined to bytes.
 -- Assumes nothing.
 use mathlib.Core.List.{List}
 use Prim.Native.Nat.{ℕ, _+_, _*_, _/_, _%_, _^_}
@@ -19,14 +19,14 @@ normsOf row = tabulate 288 (λ (i : ℕ). normOf (complexAt row i))
 unfoldable pub bitsOf : Slicer → List Float → List ℕ
 bitsOf slicer row = tabulate 288 (λ (j : ℕ). slicedBit slicer row (j % 2) (j / 2))
 
--- the bits of one stream
-unfoldable pub apartOf : ℕ → List ℕ → List ℕ
-apartOf stream bits = tabulate 144 (λ (i : ℕ). getD bits (2 * i + stream) 0)
+-- the bits of stream 0, then those of stream 1
+unfoldable pub apartOf : List ℕ → List ℕ
+apartOf bits = tabulate 288 (λ (j : ℕ). getD bits (2 * (j % 144) + j / 144) 0)
 
 -- n numbers, each of two that are w bits wide, the first higher
 unfoldable pub joined : ℕ → ℕ → List ℕ → List ℕ
 joined n w xs = tabulate n (λ (i : ℕ). bitOr (getD xs (2 * i) 0 * 2 ^ w % 256) (getD xs (2 * i + 1) 0))
 
--- the bits of one stream, joined three times
-unfoldable pub bytesOf : ℕ → List ℕ → List ℕ
-bytesOf stream bits = joined 18 4 (joined 36 2 (joined 72 1 (apartOf stream bits)))
+-- the bits of both streams, joined three times
+unfoldable pub bytesOf : List ℕ → List ℕ
+bytesOf bits = joined 36 4 (joined 72 2 (joined 144 1 (apartOf bits)))

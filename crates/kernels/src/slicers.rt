@@ -63,19 +63,20 @@ fn compare(row: &[f32], slicer: Slicer, bits: &mut [u8])
     }
 }
 
-// The bits of one stream.
-fn take_apart(bits: &[u8], stream: usize, apart: &mut [u8])
-    requires { ⌜ (length (now bits) ≡ 288) × (stream ≤ 1) × (length (now apart) ≡ 144) ⌝ }
-    ensures { λ _. ⌜ now (apart .exit) ≡ apartOf stream (now (bits .entry)) ⌝ }
+// The bits of stream 0, then those of stream 1.
+fn take_apart(bits: &[u8], apart: &mut [u8])
+    requires { ⌜ (length (now bits) ≡ 288) × (length (now apart) ≡ 288) ⌝ }
+    ensures { λ _. ⌜ now (apart .exit) ≡ apartOf (now (bits .entry)) ⌝ }
 {
     for i in 0..144 {
-        apart[i] = bits[2 * i + stream];
+        apart[i] = bits[2 * i];
+        apart[144 + i] = bits[2 * i + 1];
     }
 }
 
 // Two numbers of so many bits side by side, the first higher.
 fn join(halves: &[u8], width: usize, wholes: &mut [u8])
-    requires { ⌜ (length (now halves) ≡ 2 * length (now wholes)) × (length (now wholes) ≤ 72) × (width < 8) ⌝ }
+    requires { ⌜ (length (now halves) ≡ 2 * length (now wholes)) × (length (now wholes) ≤ 144) × (width < 8) ⌝ }
     ensures { λ _. ⌜ now (wholes .exit) ≡ joined (length (now (wholes .entry))) width (now (halves .entry)) ⌝ }
 {
     for i in 0..wholes.len() {
@@ -83,15 +84,15 @@ fn join(halves: &[u8], width: usize, wholes: &mut [u8])
     }
 }
 
-// The bytes of one stream: bits are joined to pairs, to fours, to bytes.
-fn slice_stream(bits: &[u8], stream: usize, out: &mut [u8])
-    requires { ⌜ (length (now bits) ≡ 288) × (stream ≤ 1) × (length (now out) ≡ 18) ⌝ }
-    ensures { λ _. ⌜ now (out .exit) ≡ bytesOf stream (now (bits .entry)) ⌝ }
+// The bytes of both streams: bits are joined to pairs, to fours, to bytes.
+fn pack(bits: &[u8], out: &mut [u8])
+    requires { ⌜ (length (now bits) ≡ 288) × (length (now out) ≡ 36) ⌝ }
+    ensures { λ _. ⌜ now (out .exit) ≡ bytesOf (now (bits .entry)) ⌝ }
 {
-    let mut apart = [0u8; 144];
-    let mut pairs = [0u8; 72];
-    let mut fours = [0u8; 36];
-    take_apart(bits, stream, &mut apart);
+    let mut apart = [0u8; 288];
+    let mut pairs = [0u8; 144];
+    let mut fours = [0u8; 72];
+    take_apart(bits, &mut apart);
     join(&apart, 1, &mut pairs);
     join(&pairs, 2, &mut fours);
     join(&fours, 4, out);
@@ -104,8 +105,7 @@ fn slice_streams(row: &[f32], slicer: Slicer, out: &mut [u8])
 {
     let mut bits = [0u8; 288];
     compare(row, slicer, &mut bits);
-    slice_stream(&bits, 0, &mut out[0..18]);
-    slice_stream(&bits, 1, &mut out[18..36]);
+    pack(&bits, out);
 }
 
 // Both streams of both slicers, of the symbols of one clock phase.

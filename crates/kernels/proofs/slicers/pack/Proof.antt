@@ -1,8 +1,8 @@
--- `kernels::slicers::slice_stream` meets its contract. Assumes nothing.
+-- `kernels::slicers::pack` meets its contract: each call joins what the one before made. Assumes nothing.
 use Rattle.kernels.proofs.Joining.{bytes-made}
 use borrow.Author.Needs.{needs}
-use Rattle.kernels.proofs.slicers.slice_stream.Statement.{statement}
-use Rattle.kernels.proofs.slicers.slice_stream.Tie as tie
+use Rattle.kernels.proofs.slicers.pack.Statement.{statement}
+use Rattle.kernels.proofs.slicers.pack.Tie as tie
 
 slice-aggregate-take-apart : tie.Need-slice-aggregate-take-apart
 slice-aggregate-take-apart c = search needs
@@ -38,10 +38,10 @@ same-length : tie.Need-same-length
 same-length c = search needs
 
 returns : tie.Need-returns
-returns c = bytes-made _ _ _ (c .before .before .before .before .before .before .before .before .before .before .before .before .before .before .before .before .before .before .pre .2) (c .before .before .before .before .before .before .before .before .before .before .before .before .before .before .take-apart .ensures) (c .before .before .before .before .before .before .before .before .before .before .join .ensures) (c .before .before .before .before .before .before .join2 .ensures) (c .before .before .join3 .ensures)
+returns c = bytes-made _ _ (c .before .before .before .before .before .before .before .before .before .before .before .before .before .before .before .before .before .before .pre .1) (c .before .before .before .before .before .before .before .before .before .before .before .before .before .before .take-apart .ensures) (c .before .before .before .before .before .before .before .before .before .before .join .ensures) (c .before .before .before .before .before .before .join2 .ensures) (c .before .before .join3 .ensures)
 
-pub slice-stream-spec : {M : Type 1} → statement M
-slice-stream-spec =
+pub pack-spec : {M : Type 1} → statement M
+pack-spec =
     tie.close
     (tie.spec
     slice-aggregate-take-apart

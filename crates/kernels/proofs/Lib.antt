@@ -1,3 +1,4 @@
 pub mod Summing
 pub mod Slicing
+pub mod Joining
 pub mod Measuring

@@ -1,38 +1,63 @@
 -- Laws of slicing.
---     bit-inside, bit-outside     a bit with two symbols, and the one without
+--     real-bit, norm-bit          a bit with two symbols, by real parts and by norms
+--     bits-done                   the bits of both streams in turn
 --     slicedBit-lt                a bit is below 2
 --     sliced-length, bit-sliced   a stream has 18 bytes, and its bits are those of the slicer
 --     streams-first, -second      both streams, one after the other
 --     demodulated-done            the answer where nothing is refused
 -- Assumes nothing.
-use mathlib.Core.Path.{_≡_}
+use mathlib.Core.Path.{_≡_, refl, _∙_}
 use mathlib.Core.List.{List, _++_, append-nil}
 use mathlib.Core.Bool.{Bool, true, false, cond}
-use Prim.Native.Nat.{ℕ, _+_, _*_, _<_, _≤_}
+use Prim.Native.Nat.{ℕ, _+_, _*_, _/_, _%_, _<_, _≤_}
 use native.Mathlib.Omega.{arith}
-use borrow.Author.Tests.{lt-ltb, le-ltb, eq-eqb}
+use borrow.Author.Tests.{lt-ltb, eq-eqb}
 use lib.Dec.{ltb, lit<}
-use lib.ListN.{length, take, drop, length-append, length-drop, drop-of-length-le}
+use lib.ListN.{length, getD, set, take, drop, length-append, length-drop, drop-of-length-le}
 use lib.Seq.{take-at, drop-at}
-use lib.Ieee.{Float}
+use lib.Ieee.{Float, lt, nan}
 use Rattle.lists.specs.Bits.{bitAt, value, packed}
-use Rattle.lists.proofs.Table.{length-tabulate}
+use Rattle.lists.proofs.Table.{Done, done-more, done-all, length-tabulate, getD-tabulate}
 use Rattle.lists.proofs.Bits.{bitAt-packed}
-use Rattle.math.specs.declared.Complex.{Complex}
+use Rattle.math.specs.Complex.{normOf}
 use Rattle.place.specs.declared.Slicer.{Slicer}
 use Rattle.place.specs.declared.Slicer.the-variants.{Coherent, Noncoherent}
 use Rattle.kernels.specs.Symbols.{complexAt}
 use Rattle.kernels.specs.Slices.{greaterBy, digit, slicedBit, sliced, streamsOf, demodulated}
+use Rattle.kernels.specs.Joins.{normsOf, bitsOf}
 
-module _ (slicer : Slicer) (row : List Float) (stream i : ℕ) where
-  pub bit-inside : {z w : Complex} {t : Bool} → 2 * i + stream + 1 < 288 → z ≡ complexAt row (2 * i + stream)
-      → w ≡ complexAt row (2 * i + stream + 1) → t ≡ greaterBy slicer z w → digit t ≡ slicedBit slicer row stream i
-  unfolding slicedBit
-  bit-inside h e f g = rw (lt-ltb _ _ h, g, e, f)
+-- the bits of both streams in turn: bit j compares symbols j and j + 1
+in-turn : (slicer : Slicer) (row : List Float) (j : ℕ) → j < 287
+    → digit (greaterBy slicer (complexAt row j) (complexAt row (j + 1))) ≡ slicedBit slicer row (j % 2) (j / 2)
+unfolding slicedBit
+in-turn slicer row j h =
+    let q : 2 * (j / 2) + j % 2 ≡ j = omega arith in
+    rw (q, lt-ltb (j + 1) 288 (omega arith))
 
-  pub bit-outside : 288 ≤ 2 * i + stream + 1 → 0 ≡ slicedBit slicer row stream i
-  unfolding slicedBit
-  bit-outside h = rw (le-ltb _ _ h)
+pub real-bit : (row : List Float) (j : ℕ) {b : ℕ} → j < 287 → b ≡ digit (lt (getD row (2 * (j + 1)) nan) (getD row (2 * j) nan))
+    → b ≡ slicedBit Coherent row (j % 2) (j / 2)
+unfolding complexAt
+real-bit row j h e = e ∙ in-turn Coherent row j h
+
+pub norm-bit : (row : List Float) (j : ℕ) {norms : List Float} {b : ℕ} → j < 287 → norms ≡ normsOf row
+    → b ≡ digit (lt (getD norms (j + 1) nan) (getD norms j nan)) → b ≡ slicedBit Noncoherent row (j % 2) (j / 2)
+unfolding normsOf
+norm-bit row j h n e =
+    let f : ℕ → Float = λ (i : ℕ). normOf (complexAt row i) in
+    e ∙ (rw (n, getD-tabulate 288 f (j + 1) nan (omega arith), getD-tabulate 288 f j nan (omega arith)) (in-turn Noncoherent row j h))
+
+last-bit : (slicer : Slicer) (row : List Float) → 0 ≡ slicedBit slicer row (287 % 2) (287 / 2)
+unfolding slicedBit
+last-bit slicer row = refl
+
+-- the last bit is stored after the loop
+pub bits-done : (slicer : Slicer) (row : List Float) (xs : List ℕ) (i : ℕ) → i ≤ 287 → 287 ≤ i
+    → Done 0 (λ (j : ℕ). slicedBit slicer row (j % 2) (j / 2)) 288 xs i → set xs 287 0 ≡ bitsOf slicer row
+unfolding bitsOf
+bits-done slicer row xs i a b r =
+    let f : ℕ → ℕ = λ (j : ℕ). slicedBit slicer row (j % 2) (j / 2) in
+    let e : i ≡ 287 = omega arith in
+    done-all 0 f 288 (set xs 287 0) (287 + 1) (omega arith) (done-more 0 f 288 xs 287 0 (omega arith) (rw e at r) (last-bit slicer row))
 
 digit-lt : (t : Bool) → digit t < 2
 digit-lt true = lit< tt

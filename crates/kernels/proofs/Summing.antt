@@ -1,5 +1,5 @@
 -- Laws of symbol sums.
---     sum-more, pair-more   a turn of the inner loop, and of the outer
+--     pair-more             a turn of the loop
 --     symbols-length        there are 2,304 numbers
 --     symbol-stands         where a symbol stands
 --     complex-part          complex numbers of a part of a row
@@ -9,20 +9,34 @@
 use mathlib.Core.Path.{_≡_, _∙_}
 use mathlib.Core.List.{List}
 use Prim.Native.Nat.{ℕ, _+_, _*_, _/_, _%_, _<_}
-use native.Mathlib.Numerals.{add-one}
 use native.Mathlib.Omega.{arith}
 use borrow.Author.Tests.{eq-eqb}
-use lib.ListN.{length, set, take, drop}
+use lib.ListN.{length, getD, set, take, drop}
 use lib.Seq.{getD-take, getD-drop}
 use lib.Ieee.{Float, nan}
 use Rattle.lists.proofs.Table.{Done, done-more, length-tabulate, getD-tabulate}
-use Rattle.math.specs.declared.Complex.{Complex}
-use Rattle.math.specs.Complex.{plusOf}
 use Rattle.kernels.specs.Symbols.{complexAt, sumFrom, symbolOf, numberOf, symbolsOf, accumulated}
+use Rattle.kernels.specs.Running.{fourFrom, runningSums}
 
-pub sum-more : (xs : List Float) (j m : ℕ) {z w s : Complex} → z ≡ sumFrom xs j m → w ≡ complexAt xs (j + m) → s ≡ plusOf z w → s ≡ sumFrom xs j (m + 1)
-unfolding sumFrom
-sum-more xs j m ez ew es = es ∙ rw (ez, ew, add-one m)
+-- the running sums hold both parts of the sum from number j on
+module _ (s : List Float) (j : ℕ) where
+  four-re : fourFrom s (2 * j) ≡ sumFrom s j 4 .re
+  unfolding fourFrom sumFrom complexAt
+  four-re =
+      let z : j + 0 ≡ j = omega arith in
+      let a : 2 * j + 2 ≡ 2 * (j + 1) = omega arith in
+      let b : 2 * j + 4 ≡ 2 * (j + 2) = omega arith in
+      let d : 2 * j + 6 ≡ 2 * (j + 3) = omega arith in
+      rw (z, a, b, d)
+
+  four-im : fourFrom s (2 * j + 1) ≡ sumFrom s j 4 .im
+  unfolding fourFrom sumFrom complexAt
+  four-im =
+      let z : j + 0 ≡ j = omega arith in
+      let a : 2 * j + 1 + 2 ≡ 2 * (j + 1) + 1 = omega arith in
+      let b : 2 * j + 1 + 4 ≡ 2 * (j + 2) + 1 = omega arith in
+      let d : 2 * j + 1 + 6 ≡ 2 * (j + 3) + 1 = omega arith in
+      rw (z, a, b, d)
 
 -- the numbers of symbol n of phase k
 module _ (s : List Float) (k n : ℕ) (l : n < 288) where
@@ -47,17 +61,19 @@ module _ (s : List Float) (k n : ℕ) (l : n < 288) where
       rw (a, b, d)
 
 -- symbol n of phase k is stored after those before it
-pub pair-more : (s xs : List Float) (k n : ℕ) (z : Complex) → k < 4 → n < 288 → z ≡ sumFrom s (4 * n + k) 4
+pub pair-more : (s xs sums : List Float) (k n : ℕ) → k < 4 → n < 288 → sums ≡ runningSums s
     → Done nan (numberOf s) 2304 xs (576 * k + 2 * n)
-    → Done nan (numberOf s) 2304 (set (set xs (576 * k + 2 * n) (z .re)) (576 * k + 2 * n + 1) (z .im)) (576 * k + 2 * (n + 1))
-unfolding symbolOf
-pair-more s xs k n z hk hn e r =
+    → Done nan (numberOf s) 2304 (set (set xs (576 * k + 2 * n) (getD sums (2 * (4 * n + k)) nan)) (576 * k + 2 * n + 1) (getD sums (2 * (4 * n + k) + 1) nan)) (576 * k + 2 * (n + 1))
+unfolding symbolOf runningSums
+pair-more s xs sums k n hk hn e r =
     let i = 576 * k + 2 * n in
+    let j = 4 * n + k in
     let m : 576 * k + 2 * (n + 1) ≡ i + 1 + 1 = omega arith in
     rw m
-    (done-more nan (numberOf s) 2304 (set xs i (z .re)) (i + 1) (z .im) (omega arith)
-    (done-more nan (numberOf s) 2304 xs i (z .re) (omega arith) r (rw (re-is s k n hn, e)))
-    (rw (im-is s k n hn, e)))
+    (done-more nan (numberOf s) 2304 (set xs i (getD sums (2 * j) nan)) (i + 1) (getD sums (2 * j + 1) nan) (omega arith)
+    (done-more nan (numberOf s) 2304 xs i (getD sums (2 * j) nan) (omega arith) r
+    (rw (e, getD-tabulate 2304 (fourFrom s) (2 * j) nan (omega arith), re-is s k n hn) (four-re s j)))
+    (rw (e, getD-tabulate 2304 (fourFrom s) (2 * j + 1) nan (omega arith), im-is s k n hn) (four-im s j)))
 
 pub symbols-length : (s : List Float) → length (symbolsOf s) ≡ 2304
 unfolding symbolsOf

@@ -5,57 +5,97 @@ use place::Slicer;
 ghost use mathlib.Core.Path.{_≡_};
 ghost use Prim.Native.Nat.{_*_, _<_, _≤_};
 ghost use lib.ListN.{length};
-ghost use Rattle.lists.specs.Bits.{value};
-ghost use Rattle.kernels.specs.Slices.{greaterBy, slicedBit, sliced, streamsOf, demodulated};
+ghost use Rattle.place.specs.declared.Slicer.the-variants.{Coherent, Noncoherent};
+ghost use Rattle.kernels.specs.Slices.{digit, streamsOf, demodulated};
+ghost use Rattle.kernels.specs.Joins.{normsOf, bitsOf, apartOf, joined, bytesOf};
 
-// Whether a is strictly greater than b.
-fn greater(slicer: Slicer, a: Complex, b: Complex) -> bool
-    ensures { λ r. ⌜ r ≡ greaterBy slicer a b ⌝ }
+// A truth as a bit.
+fn bit(t: bool) -> u8
+    ensures { λ r. ⌜ r ≡ digit t ⌝ }
 {
-    match slicer {
-        Slicer::Coherent => a.re > b.re,
-        Slicer::Noncoherent => a.norm() > b.norm(),
-    }
-}
-
-// Bit i of a stream.
-fn slice_bit(row: &[f32], slicer: Slicer, stream: usize, i: usize) -> u8
-    requires { ⌜ (length (now row) ≡ 576) × (stream ≤ 1) × (i < 144) ⌝ }
-    ensures { λ r. ⌜ r ≡ slicedBit slicer (now (row .entry)) stream i ⌝ }
-{
-    let first = 2 * i + stream;
-    // The last bit of stream 1 has no second symbol.
-    if first + 1 < 288 {
-        if greater(slicer, complex_at(row, first), complex_at(row, first + 1)) {
-            1
-        } else {
-            0
-        }
+    if t {
+        1
     } else {
         0
     }
 }
 
-// Byte n of a stream.
-fn slice_byte(row: &[f32], slicer: Slicer, stream: usize, n: usize) -> u8
-    requires { ⌜ (length (now row) ≡ 576) × (stream ≤ 1) × (n < 18) ⌝ }
-    ensures { λ r. ⌜ r ≡ value (slicedBit slicer (now (row .entry)) stream) (8 * n) 8 ⌝ }
+// The bits of both streams in turn, by real parts. The last symbol has none after it.
+fn compare_reals(row: &[f32], bits: &mut [u8])
+    requires { ⌜ (length (now row) ≡ 576) × (length (now bits) ≡ 288) ⌝ }
+    ensures { λ _. ⌜ now (bits .exit) ≡ bitsOf Coherent (now (row .entry)) ⌝ }
 {
-    let mut b: u8 = 0;
-    for m in 0..8 {
-        b = (b << 1) | slice_bit(row, slicer, stream, 8 * n + m);
+    for i in 0..287 {
+        bits[i] = bit(row[2 * i] > row[2 * (i + 1)]);
     }
-    b
+    bits[287] = 0;
 }
 
-// One stream of one slicer.
-fn slice_stream(row: &[f32], slicer: Slicer, stream: usize, out: &mut [u8])
-    requires { ⌜ (length (now row) ≡ 576) × (stream ≤ 1) × (length (now out) ≡ 18) ⌝ }
-    ensures { λ _. ⌜ now (out .exit) ≡ sliced slicer (now (row .entry)) stream ⌝ }
+fn find_norms(row: &[f32], norms: &mut [f32])
+    requires { ⌜ (length (now row) ≡ 576) × (length (now norms) ≡ 288) ⌝ }
+    ensures { λ _. ⌜ now (norms .exit) ≡ normsOf (now (row .entry)) ⌝ }
 {
-    for n in 0..18 {
-        out[n] = slice_byte(row, slicer, stream, n);
+    for i in 0..288 {
+        norms[i] = complex_at(row, i).norm();
     }
+}
+
+// The bits of both streams in turn, by norms.
+fn compare_norms(row: &[f32], bits: &mut [u8])
+    requires { ⌜ (length (now row) ≡ 576) × (length (now bits) ≡ 288) ⌝ }
+    ensures { λ _. ⌜ now (bits .exit) ≡ bitsOf Noncoherent (now (row .entry)) ⌝ }
+{
+    let mut norms = [0.0f32; 288];
+    find_norms(row, &mut norms);
+    for i in 0..287 {
+        bits[i] = bit(norms[i] > norms[i + 1]);
+    }
+    bits[287] = 0;
+}
+
+fn compare(row: &[f32], slicer: Slicer, bits: &mut [u8])
+    requires { ⌜ (length (now row) ≡ 576) × (length (now bits) ≡ 288) ⌝ }
+    ensures { λ _. ⌜ now (bits .exit) ≡ bitsOf slicer (now (row .entry)) ⌝ }
+{
+    match slicer {
+        Slicer::Coherent => compare_reals(row, bits),
+        Slicer::Noncoherent => compare_norms(row, bits),
+    }
+}
+
+// The bits of stream 0, then those of stream 1.
+fn take_apart(bits: &[u8], apart: &mut [u8])
+    requires { ⌜ (length (now bits) ≡ 288) × (length (now apart) ≡ 288) ⌝ }
+    ensures { λ _. ⌜ now (apart .exit) ≡ apartOf (now (bits .entry)) ⌝ }
+{
+    for i in 0..144 {
+        apart[i] = bits[2 * i];
+        apart[144 + i] = bits[2 * i + 1];
+    }
+}
+
+// Two numbers of so many bits side by side, the first higher.
+fn join(halves: &[u8], width: usize, wholes: &mut [u8])
+    requires { ⌜ (length (now halves) ≡ 2 * length (now wholes)) × (length (now wholes) ≤ 144) × (width < 8) ⌝ }
+    ensures { λ _. ⌜ now (wholes .exit) ≡ joined (length (now (wholes .entry))) width (now (halves .entry)) ⌝ }
+{
+    for i in 0..wholes.len() {
+        wholes[i] = (halves[2 * i] << width) | halves[2 * i + 1];
+    }
+}
+
+// The bytes of both streams: bits are joined to pairs, to fours, to bytes.
+fn pack(bits: &[u8], out: &mut [u8])
+    requires { ⌜ (length (now bits) ≡ 288) × (length (now out) ≡ 36) ⌝ }
+    ensures { λ _. ⌜ now (out .exit) ≡ bytesOf (now (bits .entry)) ⌝ }
+{
+    let mut apart = [0u8; 288];
+    let mut pairs = [0u8; 144];
+    let mut fours = [0u8; 72];
+    take_apart(bits, &mut apart);
+    join(&apart, 1, &mut pairs);
+    join(&pairs, 2, &mut fours);
+    join(&fours, 4, out);
 }
 
 // Both streams of one slicer.
@@ -63,8 +103,9 @@ fn slice_streams(row: &[f32], slicer: Slicer, out: &mut [u8])
     requires { ⌜ (length (now row) ≡ 576) × (length (now out) ≡ 36) ⌝ }
     ensures { λ _. ⌜ now (out .exit) ≡ streamsOf slicer (now (row .entry)) ⌝ }
 {
-    slice_stream(row, slicer, 0, &mut out[0..18]);
-    slice_stream(row, slicer, 1, &mut out[18..36]);
+    let mut bits = [0u8; 288];
+    compare(row, slicer, &mut bits);
+    pack(&bits, out);
 }
 
 // Both streams of both slicers, of the symbols of one clock phase.

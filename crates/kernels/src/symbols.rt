@@ -1,33 +1,31 @@
 // Symbol sums: four samples each, at four clock phases.
-use crate::complex::complex_at;
-use math::Complex;
 ghost use mathlib.Core.Path.{_≡_};
-ghost use Prim.Native.Nat.{_+_, _*_, _<_};
 ghost use lib.ListN.{length};
-ghost use Rattle.kernels.specs.Symbols.{sumFrom, symbolsOf, accumulated};
+ghost use Rattle.kernels.specs.Symbols.{symbolsOf, accumulated};
+ghost use Rattle.kernels.specs.Running.{runningSums};
 
-// The sum of four complex numbers from number j on.
-fn sum_of_four(xs: &[f32], j: usize) -> Complex
-    requires { ⌜ 2 * j + 7 < length (now xs) ⌝ }
-    ensures { λ r. ⌜ r ≡ sumFrom (now (xs .entry)) j 4 ⌝ }
+// A sum for each number of the samples: itself and the next three of its part. Neighbours are summed side by side.
+fn running_sums(samples: &[f32], sums: &mut [f32])
+    requires { ⌜ (length (now samples) ≡ 2310) × (length (now sums) ≡ 2304) ⌝ }
+    ensures { λ _. ⌜ now (sums .exit) ≡ runningSums (now (samples .entry)) ⌝ }
 {
-    let mut z = Complex::ZERO;
-    for m in 0..4 {
-        z = z.plus(complex_at(xs, j + m));
+    for i in 0..2304 {
+        sums[i] = 0.0 + samples[i] + samples[i + 2] + samples[i + 4] + samples[i + 6];
     }
-    z
 }
 
-// Phase by phase, so that the symbols are stored one after the other.
+// Symbol n of phase k is the sum from sample 4n+k on.
 fn accumulate(samples: &[f32], symbols: &mut [f32])
     requires { ⌜ (length (now samples) ≡ 2310) × (length (now symbols) ≡ 2304) ⌝ }
     ensures { λ _. ⌜ now (symbols .exit) ≡ symbolsOf (now (samples .entry)) ⌝ }
 {
+    let mut sums = [0.0f32; 2304];
+    running_sums(samples, &mut sums);
     for k in 0..4 {
         for n in 0..288 {
-            let z = sum_of_four(samples, 4 * n + k);
-            symbols[576 * k + 2 * n] = z.re;
-            symbols[576 * k + 2 * n + 1] = z.im;
+            let first = 2 * (4 * n + k);
+            symbols[576 * k + 2 * n] = sums[first];
+            symbols[576 * k + 2 * n + 1] = sums[first + 1];
         }
     }
 }

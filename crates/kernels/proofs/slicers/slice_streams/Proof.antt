@@ -1,52 +1,34 @@
--- `kernels::slicers::slice_streams` meets its contract: each stream is stored in its part. Assumes nothing.
-use Rattle.kernels.proofs.Slicing.{streams-stored}
+-- `kernels::slicers::slice_streams` meets its contract: the bits are made, and packed. Assumes nothing.
+use Rattle.kernels.proofs.Joining.{bytes-are}
 use borrow.Author.Needs.{needs}
 use Rattle.kernels.proofs.slicers.slice_streams.Statement.{statement}
 use Rattle.kernels.proofs.slicers.slice_streams.Tie as tie
 
-sub-slice-stream : tie.Need-sub-slice-stream
-sub-slice-stream c = search needs
+slice-aggregate-compare : tie.Need-slice-aggregate-compare
+slice-aggregate-compare c = search needs
 
-part-slice-stream-start : tie.Need-part-slice-stream-start
-part-slice-stream-start c = search needs
+compare-requires : tie.Need-compare-requires
+compare-requires c κs = search needs
 
-part-slice-stream-end : tie.Need-part-slice-stream-end
-part-slice-stream-end c = search needs
+slice-aggregate-pack : tie.Need-slice-aggregate-pack
+slice-aggregate-pack c = search needs
 
-slice-stream-requires : tie.Need-slice-stream-requires
-slice-stream-requires c κs = search needs
-
-sub-slice-stream-2 : tie.Need-sub-slice-stream-2
-sub-slice-stream-2 c = search needs
-
-part-slice-stream-start-2 : tie.Need-part-slice-stream-start-2
-part-slice-stream-start-2 c = search needs
-
-part-slice-stream-end-2 : tie.Need-part-slice-stream-end-2
-part-slice-stream-end-2 c = search needs
-
-slice-stream-requires-2 : tie.Need-slice-stream-requires-2
-slice-stream-requires-2 c κs = search needs
+pack-requires : tie.Need-pack-requires
+pack-requires c κs = search needs
 
 same-length : tie.Need-same-length
 same-length c = search needs
 
 returns : tie.Need-returns
-returns c =
-    let start = c .before .before .before .before .before .before .before .before .before .before in
-    streams-stored _ _ (start .args .out .now) _ _ (start .pre .1) (c .before .before .before .before .before .before .slice-stream .ensures) (c .before .before .slice-stream2 .ensures)
+returns c = bytes-are _ _ (c .before .before .before .before .before .before .compare .ensures) (c .before .before .pack .ensures)
 
 pub slice-streams-spec : {M : Type 1} → statement M
 slice-streams-spec =
     tie.close
     (tie.spec
-    sub-slice-stream
-    part-slice-stream-start
-    part-slice-stream-end
-    slice-stream-requires
-    sub-slice-stream-2
-    part-slice-stream-start-2
-    part-slice-stream-end-2
-    slice-stream-requires-2
+    slice-aggregate-compare
+    compare-requires
+    slice-aggregate-pack
+    pack-requires
     same-length
     returns)

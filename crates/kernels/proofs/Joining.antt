@@ -1,0 +1,147 @@
+-- Bits joined to bytes.
+--     apart-more   a turn of the loop that puts one stream after the other
+--     bytes-made   what the four calls made
+--     bytes-are    joined three times, the bits of both streams are their bytes
+-- Assumes nothing.
+use mathlib.Core.Path.{_≡_, refl, sym, ap, _∙_}
+use mathlib.Core.List.{List, _++_}
+use Prim.Native.Nat.{ℕ, zero, suc, _+_, _-_, _*_, _/_, _%_, _^_, _<_}
+use native.Mathlib.Nat.{mod-eq-of-lt}
+use native.Mathlib.Decide.{ℕ-discrete}
+use native.Mathlib.Omega.{arith}
+use lib.Bits.{bitOr, or-shifted}
+use lib.ListN.{length, getD, set, List·getD-append}
+use lib.Seq.{getD-append-add}
+use lib.Ieee.{Float}
+use Rattle.lists.specs.From.{tabulate}
+use Rattle.lists.specs.Bits.{value, packed}
+use Rattle.lists.proofs.Table.{Where, where-more, length-tabulate, getD-tabulate, tabulate-is}
+use Rattle.lists.proofs.Bits.{value-lt, value-split}
+use Rattle.place.specs.declared.Slicer.{Slicer}
+use Rattle.kernels.specs.Slices.{slicedBit, sliced, streamsOf}
+use Rattle.kernels.specs.Joins.{bitsOf, apartOf, joined, bytesOf}
+use Rattle.kernels.proofs.Slicing.{slicedBit-lt, sliced-length, streams-length}
+
+-- two stores, one in each stream
+pub apart-more : (bits xs : List ℕ) (i : ℕ) → i < 144 → Where 0 (λ (j : ℕ). getD bits (2 * (j % 144) + j / 144) 0) 288 xs (λ (j : ℕ). j % 144 < i)
+    → Where 0 (λ (j : ℕ). getD bits (2 * (j % 144) + j / 144) 0) 288 (set (set xs i (getD bits (2 * i) 0)) (144 + i) (getD bits (2 * i + 1) 0)) (λ (j : ℕ). j % 144 < i + 1)
+apart-more bits xs i h r =
+    let f : ℕ → ℕ = λ (j : ℕ). getD bits (2 * (j % 144) + j / 144) 0 in
+    let between : ℕ → Type 0 = λ (j : ℕ). (j ≡ i → ⊥) → j % 144 < i in
+    let a : 2 * (i % 144) + i / 144 ≡ 2 * i = omega arith in
+    let b : 2 * ((144 + i) % 144) + (144 + i) / 144 ≡ 2 * i + 1 = omega arith in
+    where-more 0 f 288 (set xs i (getD bits (2 * i) 0)) between (λ (j : ℕ). j % 144 < i + 1) (144 + i) (getD bits (2 * i + 1) 0) (omega arith) (rw b)
+    (λ k l q other one. omega arith)
+    (where-more 0 f 288 xs (λ (j : ℕ). j % 144 < i) between i (getD bits (2 * i) 0) (omega arith) (rw a) (λ k l m other. m other) r)
+
+-- what the four calls made
+pub bytes-made : (n : ℕ) (bits : List ℕ) {a p q r : List ℕ} → n ≡ 36 → a ≡ apartOf bits → p ≡ joined 144 1 a → q ≡ joined 72 2 p → r ≡ joined n 4 q
+    → r ≡ bytesOf bits
+unfolding bytesOf
+bytes-made n bits l a p q r = r ∙ rw (l, q, p, a)
+
+-- tables that agree at every place
+same : (n : ℕ) (f g : ℕ → ℕ) → ((k : ℕ) → k < n → f k ≡ g k) → tabulate n f ≡ tabulate n g
+same n f g each = tabulate-is 0 g n (tabulate n f) (length-tabulate n f) (λ k h. getD-tabulate n f k 0 h ∙ each k h)
+
+-- numbers of the same bits
+value-same : (f g : ℕ → ℕ) (i j n : ℕ) → ((m : ℕ) → m < n → f (i + m) ≡ g (j + m)) → value f i n ≡ value g j n
+unfolding value
+value-same f g i j zero each = refl
+value-same f g i j (suc n) each = rw (value-same f g i j n (λ m l. each m (omega arith)), each n (omega arith))
+
+module _ (f : ℕ → ℕ) (bit : (i : ℕ) → f i < 2) where
+  -- two numbers side by side are one of twice as many bits
+  value-joined : (j w : ℕ) {a b : ℕ} → value f j w * 2 ^ w < 256 → a ≡ value f j w → b ≡ value f (j + w) w
+      → bitOr (a * 2 ^ w % 256) b ≡ value f j (w + w)
+  value-joined j w m e g =
+      rw (e, g, mod-eq-of-lt m, or-shifted (value f j w) w (value f (j + w) w) (value-lt f bit (j + w) w)) (sym (value-split f j w w))
+
+  value-one : (j : ℕ) → f j ≡ value f j 1
+  unfolding value
+  value-one j =
+      let e : j + 0 ≡ j = omega arith in
+      rw e (omega arith)
+
+  pairs : joined 144 1 (tabulate 288 f) ≡ tabulate 144 (λ (i : ℕ). value f (2 * i) 2)
+  unfolding joined
+  pairs =
+      same 144 (λ (i : ℕ). bitOr (getD (tabulate 288 f) (2 * i) 0 * 2 ^ 1 % 256) (getD (tabulate 288 f) (2 * i + 1) 0)) (λ (i : ℕ). value f (2 * i) 2)
+      (λ i h. value-joined (2 * i) 1 (omega (arith, value-lt f bit (2 * i) 1))
+      (getD-tabulate 288 f (2 * i) 0 (omega arith) ∙ value-one (2 * i))
+      (getD-tabulate 288 f (2 * i + 1) 0 (omega arith) ∙ value-one (2 * i + 1)))
+
+  fours : joined 72 2 (tabulate 144 (λ (i : ℕ). value f (2 * i) 2)) ≡ tabulate 72 (λ (i : ℕ). value f (4 * i) 4)
+  unfolding joined
+  fours =
+      let g : ℕ → ℕ = λ (i : ℕ). value f (2 * i) 2 in
+      same 72 (λ (i : ℕ). bitOr (getD (tabulate 144 g) (2 * i) 0 * 2 ^ 2 % 256) (getD (tabulate 144 g) (2 * i + 1) 0)) (λ (i : ℕ). value f (4 * i) 4)
+      (λ i h.
+      let a : 2 * (2 * i) ≡ 4 * i = omega arith in
+      let b : 2 * (2 * i + 1) ≡ 4 * i + 2 = omega arith in
+      value-joined (4 * i) 2 (omega (arith, value-lt f bit (4 * i) 2))
+      (getD-tabulate 144 g (2 * i) 0 (omega arith) ∙ rw a)
+      (getD-tabulate 144 g (2 * i + 1) 0 (omega arith) ∙ rw b))
+
+  bytes : joined 36 4 (tabulate 72 (λ (i : ℕ). value f (4 * i) 4)) ≡ packed 36 f
+  unfolding joined packed
+  bytes =
+      let g : ℕ → ℕ = λ (i : ℕ). value f (4 * i) 4 in
+      same 36 (λ (i : ℕ). bitOr (getD (tabulate 72 g) (2 * i) 0 * 2 ^ 4 % 256) (getD (tabulate 72 g) (2 * i + 1) 0)) (λ (i : ℕ). value f (8 * i) 8)
+      (λ i h.
+      let a : 4 * (2 * i) ≡ 8 * i = omega arith in
+      let b : 4 * (2 * i + 1) ≡ 8 * i + 4 = omega arith in
+      value-joined (8 * i) 4 (omega (arith, value-lt f bit (8 * i) 4))
+      (getD-tabulate 72 g (2 * i) 0 (omega arith) ∙ rw a)
+      (getD-tabulate 72 g (2 * i + 1) 0 (omega arith) ∙ rw b))
+
+module _ (slicer : Slicer) (row : List Float) where
+  -- the bits of stream 0, then those of stream 1
+  abbrev streamBit : ℕ → ℕ
+  streamBit j = slicedBit slicer row (j / 144) (j % 144)
+
+  apart : apartOf (bitsOf slicer row) ≡ tabulate 288 streamBit
+  unfolding apartOf bitsOf
+  apart =
+      let g : ℕ → ℕ = λ (j : ℕ). slicedBit slicer row (j % 2) (j / 2) in
+      same 288 (λ (j : ℕ). getD (tabulate 288 g) (2 * (j % 144) + j / 144) 0) streamBit
+      (λ j l.
+      let a : (2 * (j % 144) + j / 144) % 2 ≡ j / 144 = omega arith in
+      let b : (2 * (j % 144) + j / 144) / 2 ≡ j % 144 = omega arith in
+      getD-tabulate 288 g (2 * (j % 144) + j / 144) 0 (omega arith) ∙ rw (a, b))
+
+  -- byte n of a stream
+  byte-is : (s n : ℕ) → n < 18 → getD (sliced slicer row s) n 0 ≡ value streamBit (8 * (18 * s + n)) 8
+  unfolding sliced packed
+  byte-is s n h =
+      getD-tabulate 18 (λ (k : ℕ). value (slicedBit slicer row s) (8 * k) 8) n 0 h
+      ∙ value-same (slicedBit slicer row s) streamBit (8 * n) (8 * (18 * s + n)) 8
+      (λ m l.
+      let a : 8 * (18 * s + n) + m ≡ 144 * s + (8 * n + m) = omega arith in
+      let b : (144 * s + (8 * n + m)) / 144 ≡ s = omega arith in
+      let c : (144 * s + (8 * n + m)) % 144 ≡ 8 * n + m = omega arith in
+      rw (a, b, c))
+
+  both : packed 36 streamBit ≡ streamsOf slicer row
+  unfolding packed streamsOf
+  both =
+      let p = sliced slicer row 0 in
+      let q = sliced slicer row 1 in
+      let e = sliced-length slicer row 0 in
+      sym
+      (tabulate-is 0 (λ (k : ℕ). value streamBit (8 * k) 8) 36 (p ++ q) (streams-length slicer row)
+      (λ k h. elim (ℕ-discrete (k / 18) 0) [
+        | yes first ↦
+          let a : 18 * 0 + k ≡ k = omega arith in
+          List·getD-append p q 0 k (rw e (omega arith)) ∙ (byte-is 0 k (omega arith) ∙ rw a)
+        | no second ↦
+          let a : 18 * 1 + (k - 18) ≡ k = omega arith in
+          let b : k ≡ length p + (k - 18) = rw e (omega arith) in
+          ap (λ (m : ℕ). getD (p ++ q) m 0) b ∙ (getD-append-add p q (k - 18) 0 ∙ (byte-is 1 (k - 18) (omega arith) ∙ rw a))
+      ]))
+
+  pub bytes-are : {bits p : List ℕ} → bits ≡ bitsOf slicer row → p ≡ bytesOf bits → p ≡ streamsOf slicer row
+  unfolding bytesOf
+  bytes-are e g =
+      let l : (j : ℕ) → streamBit j < 2 = λ j. slicedBit-lt slicer row (j / 144) (j % 144) in
+      g ∙ rw (e, apart, pairs streamBit l, fours streamBit l, bytes streamBit l, both)

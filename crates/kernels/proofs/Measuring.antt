@@ -3,28 +3,44 @@
 --     power-refused             the answer where a length is wrong
 --     power-done, noise-done    the answers where nothing is refused
 -- Assumes nothing.
-use mathlib.Core.Path.{_≡_, _∙_}
+use mathlib.Core.Path.{_≡_, ap, _∙_}
 use mathlib.Core.List.{List}
-use Prim.Native.Nat.{ℕ, _+_, _-_, _*_}
+use Prim.Native.Nat.{ℕ, _+_, _-_, _*_, _/_, _%_, _^_, _<_}
+use native.Mathlib.Nat.{mod-lt}
+use native.Mathlib.Omega.{arith}
+use lib.Dec.{lit<}
 use borrow.Author.Tests.{eq-eqb}
-use lib.ListN.{length}
+use lib.ListN.{length, getD}
 use lib.Ieee.{Float}
 use Rattle.lists.specs.Bits.{bitAt}
-use Rattle.math.specs.declared.Complex.{Complex}
 use Rattle.math.specs.Complex.{plusOf, normOf}
 use Rattle.kernels.specs.Symbols.{complexAt}
 use Rattle.kernels.specs.declared.power.Power.the-variants.{Is}
 use Rattle.kernels.specs.Powers.{pulseNorm, middle, emptyNorm, powerOf, noiseOf, powerNumber, powerAt, noiseAt}
 
-module _ (xs : List Float) (message : List ℕ) (j : ℕ) {b : ℕ} where
-  pub pulse-is : {z : Complex} {n : Float} → b ≡ bitAt message j → z ≡ complexAt xs (2 * j + (1 - b)) → n ≡ normOf z → n ≡ pulseNorm xs message j
-  unfolding pulseNorm
-  pulse-is e g h = h ∙ rw (g, e)
+-- a bit of a byte that is read once
+bit-there : (bs : List ℕ) (k m : ℕ) → m < 8 → getD bs k 0 / 2 ^ (7 - m) % 2 ≡ bitAt bs (8 * k + m)
+unfolding bitAt
+bit-there bs k m h =
+    let q : (8 * k + m) / 8 ≡ k = omega arith in
+    let r : (8 * k + m) % 8 ≡ m = omega arith in
+    rw (q, r)
 
-  pub empty-is : {y z w : Complex} {n : Float} → b ≡ bitAt message j → y ≡ complexAt xs (8 * j + 4 * b + 1) → z ≡ complexAt xs (8 * j + 4 * b + 1 + 1)
-      → w ≡ plusOf y z → n ≡ normOf w → n ≡ emptyNorm xs message j
+pub bit-lt : (bs : List ℕ) (k m : ℕ) {b : ℕ} → b ≡ getD bs k 0 / 2 ^ (7 - m) % 2 → b < 2
+bit-lt bs k m e = rw e (mod-lt (getD bs k 0 / 2 ^ (7 - m)) (lit< tt))
+
+module _ (xs : List Float) (message : List ℕ) (k m : ℕ) {b : ℕ} where
+  pub pulse-is : {n : Float} → m < 8 → b ≡ getD message k 0 / 2 ^ (7 - m) % 2 → n ≡ normOf (complexAt xs (2 * (8 * k + m) + (1 - b)))
+      → n ≡ pulseNorm xs message (8 * k + m)
+  unfolding pulseNorm
+  pulse-is h e g = g ∙ ap (λ (x : ℕ). normOf (complexAt xs (2 * (8 * k + m) + (1 - x)))) (e ∙ bit-there message k m h)
+
+  pub empty-is : {n : Float} → m < 8 → b ≡ getD message k 0 / 2 ^ (7 - m) % 2
+      → n ≡ normOf (plusOf (complexAt xs (8 * (8 * k + m) + 4 * b + 1)) (complexAt xs (8 * (8 * k + m) + 4 * b + 1 + 1)))
+      → n ≡ emptyNorm xs message (8 * k + m)
   unfolding emptyNorm middle
-  empty-is e f g h i = i ∙ rw (h, f, g, e)
+  empty-is h e g =
+      g ∙ ap (λ (x : ℕ). normOf (plusOf (complexAt xs (8 * (8 * k + m) + 4 * x + 1)) (complexAt xs (8 * (8 * k + m) + 4 * x + 1 + 1)))) (e ∙ bit-there message k m h)
 
 module _ (xs : List Float) (message : List ℕ) where
   pub power-done : length xs ≡ 448 → length message ≡ 14 → powerAt xs message ≡ Is (powerOf 14 xs message)

@@ -1,7 +1,7 @@
 // The power of a message, and of the noise beside it.
-use crate::bits::bit_at;
-use crate::complex::complex_at;
-use math::Complex;
+use crate::norms::bit_of;
+use crate::norms::empty_norm;
+use crate::norms::pulse_norm;
 ghost use mathlib.Core.Path.{_≡_};
 ghost use Prim.Native.Nat.{_*_, _≤_};
 ghost use lib.ListN.{length};
@@ -18,10 +18,11 @@ fn pulse_power(symbols: &[f32], message: &[u8]) -> f32
     ensures { λ r. ⌜ r ≡ powerOf (length (now (message .entry))) (now (symbols .entry)) (now (message .entry)) ⌝ }
 {
     let mut power: f32 = 0.0;
-    for j in 0..8 * message.len() {
-        let bit = bit_at(message, j) as usize;
-        let pulse = complex_at(symbols, 2 * j + (1 - bit));
-        power = power + pulse.norm();
+    for k in 0..message.len() {
+        let byte = message[k];
+        for m in 0..8 {
+            power = power + pulse_norm(symbols, 8 * k + m, bit_of(byte, m));
+        }
     }
     power
 }
@@ -32,11 +33,11 @@ fn empty_power(samples: &[f32], message: &[u8]) -> f32
     ensures { λ r. ⌜ r ≡ noiseOf (length (now (message .entry))) (now (samples .entry)) (now (message .entry)) ⌝ }
 {
     let mut power: f32 = 0.0;
-    for j in 0..8 * message.len() {
-        let bit = bit_at(message, j) as usize;
-        let start = 8 * j + 4 * bit + 1;
-        let w = complex_at(samples, start).plus(complex_at(samples, start + 1));
-        power = power + w.norm();
+    for k in 0..message.len() {
+        let byte = message[k];
+        for m in 0..8 {
+            power = power + empty_norm(samples, 8 * k + m, bit_of(byte, m));
+        }
     }
     power
 }

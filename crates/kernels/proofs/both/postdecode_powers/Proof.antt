@@ -1,59 +1,114 @@
--- `kernels::both::postdecode_powers` meets its contract. The loop: the powers are those of the first j bits. Assumes nothing.
-use mathlib.Core.Path.{_≡_, _∙_}
-use Prim.Native.Nat.{_-_, _≤_}
+-- `kernels::both::postdecode_powers` meets its contract. The loops: the powers are those of the first 8k + m bits. Assumes nothing.
+use mathlib.Core.Path.{_≡_, sym, ap, _∙_}
+use Prim.Native.Nat.{ℕ, _+_, _*_, _-_, _≤_}
+use native.Mathlib.Nat.{add-zero}
 use native.Mathlib.Omega.{arith}
 use borrow.Author.Needs.{needs}
-use borrow.Author.Tests.{eq-eqb, ne-eqb}
 use Rattle.math.specs.Sum.{total}
 use Rattle.math.proofs.Sums.{total-none, total-more}
+use borrow.Author.Tests.{eq-eqb, ne-eqb}
 use Rattle.kernels.specs.Powers.{pulseNorm, emptyNorm, powerOf, noiseOf}
 use Rattle.kernels.specs.Both.{powersAt}
+use Rattle.kernels.proofs.Measuring.{pulse-is, empty-is, bit-lt}
 use Rattle.kernels.proofs.both.postdecode_powers.Statement.{statement}
 use Rattle.kernels.proofs.both.postdecode_powers.Tie as tie
 
+abbrev Inv-loop2 : tie.InvT-loop2
+Inv-loop2 symbols samples message prompt₀ noise₀ k byte m₀ prompt noise m = (m ≤ 8) × (prompt ≡ total (pulseNorm symbols message) (8 * k + m)) × (noise ≡ total (emptyNorm samples message) (8 * k + m))
+
+abbrev μ-loop2 : tie.MeasureT-loop2
+μ-loop2 symbols samples message prompt₀ noise₀ k byte m₀ prompt noise m = 8 - m
+
 abbrev Inv-loop : tie.InvT-loop
-Inv-loop symbols samples message prompt₀ noise₀ j₀ prompt noise j = (j ≤ 112) × (prompt ≡ total (pulseNorm symbols message) j) × (noise ≡ total (emptyNorm samples message) j)
+Inv-loop symbols samples message prompt₀ noise₀ k₀ prompt noise k = (k ≤ 14) × (prompt ≡ total (pulseNorm symbols message) (8 * k)) × (noise ≡ total (emptyNorm samples message) (8 * k))
 
 abbrev μ-loop : tie.MeasureT-loop
-μ-loop symbols samples message prompt₀ noise₀ j₀ prompt noise j = 112 - j
+μ-loop symbols samples message prompt₀ noise₀ k₀ prompt noise k = 14 - k
 
-returns : tie.Need-returns Inv-loop μ-loop
+returns : tie.Need-returns Inv-loop2 μ-loop2 Inv-loop μ-loop
 unfolding powersAt
 returns c = simp (ne-eqb _ _ (c .if1 .taken))
 
-returns-2 : tie.Need-returns-2 Inv-loop μ-loop
+returns-2 : tie.Need-returns-2 Inv-loop2 μ-loop2 Inv-loop μ-loop
 unfolding powersAt
 returns-2 c = simp (eq-eqb _ _ (c .before .if1 .left), ne-eqb _ _ (c .if2 .taken))
 
-returns-3 : tie.Need-returns-3 Inv-loop μ-loop
+returns-3 : tie.Need-returns-3 Inv-loop2 μ-loop2 Inv-loop μ-loop
 unfolding powersAt
 returns-3 c = simp (eq-eqb _ _ (c .before .before .if1 .left), eq-eqb _ _ (c .before .if2 .left), ne-eqb _ _ (c .if3 .taken))
 
-loop-holds : tie.Need-loop-holds Inv-loop μ-loop
+loop-holds : tie.Need-loop-holds Inv-loop2 μ-loop2 Inv-loop μ-loop
 loop-holds c = (search needs, total-none _, total-none _)
 
-pulse-norm-requires : tie.Need-pulse-norm-requires Inv-loop μ-loop
-pulse-norm-requires c κs = search needs
+shared-slice-read-byte : tie.Need-shared-slice-read-byte Inv-loop2 μ-loop2 Inv-loop μ-loop
+shared-slice-read-byte c = search needs
 
-empty-norm-requires : tie.Need-empty-norm-requires Inv-loop μ-loop
-empty-norm-requires c κs = search needs
+loop2-holds : tie.Need-loop2-holds Inv-loop2 μ-loop2 Inv-loop μ-loop
+loop2-holds c =
+    let l = c .before .before .loop in
+    let e = sym (add-zero (8 * l .k)) in
+    (omega arith, l .inv .1 ∙ ap (total (pulseNorm (c .before .before .before .before .before .before .before .before .before .args .symbols .now) (c .before .before .before .before .before .before .before .before .before .args .message .now))) e, l .inv .2 ∙ ap (total (emptyNorm (c .before .before .before .before .before .before .before .before .before .args .samples .now) (c .before .before .before .before .before .before .before .before .before .args .message .now))) e)
 
-add-j : tie.Need-add-j Inv-loop μ-loop
+mul-j : tie.Need-mul-j Inv-loop2 μ-loop2 Inv-loop μ-loop
+mul-j c = search needs
+
+add-j : tie.Need-add-j Inv-loop2 μ-loop2 Inv-loop μ-loop
 add-j c = search needs
 
-loop-less : tie.Need-loop-less Inv-loop μ-loop
+bit-of-requires : tie.Need-bit-of-requires Inv-loop2 μ-loop2 Inv-loop μ-loop
+bit-of-requires c κs = search needs
+
+pulse-norm-requires : tie.Need-pulse-norm-requires Inv-loop2 μ-loop2 Inv-loop μ-loop
+pulse-norm-requires c κs = (
+  omega (arith, c .before .before .before .before .before .before .before .before .if1 .left, c .before .before .before .before .loop-test .taken, c .before .loop2-test .taken),
+  omega (arith, c .before .before .before .before .loop-test .taken, c .before .loop2-test .taken),
+  bit-lt (c .before .before .before .before .before .before .before .before .before .before .before .before .args .message .now) (c .before .before .before .before .before .loop .k) (c .before .before .loop2 .m) (c .bit-of .ensures),
+)
+
+empty-norm-requires : tie.Need-empty-norm-requires Inv-loop2 μ-loop2 Inv-loop μ-loop
+empty-norm-requires c κs = (
+  omega (arith, c .before .before .before .before .before .before .before .before .if2 .left, c .before .before .before .before .before .loop-test .taken, c .before .before .loop2-test .taken),
+  omega (arith, c .before .before .before .before .before .loop-test .taken, c .before .before .loop2-test .taken),
+  bit-lt (c .before .before .before .before .before .before .before .before .before .before .before .before .before .args .message .now) (c .before .before .before .before .before .before .loop .k) (c .before .before .before .loop2 .m) (c .before .bit-of .ensures),
+)
+
+add-m : tie.Need-add-m Inv-loop2 μ-loop2 Inv-loop μ-loop
+add-m c = search needs
+
+loop2-less : tie.Need-loop2-less Inv-loop2 μ-loop2 Inv-loop μ-loop
+loop2-less c = search needs
+
+loop2-again : tie.Need-loop2-again Inv-loop2 μ-loop2 Inv-loop μ-loop
+loop2-again c =
+    let l = c .before .before .before .before .loop2 in
+    let k = c .before .before .before .before .before .before .before .loop .k in
+    let h = c .before .before .before .loop2-test .taken in
+    let e : 8 * k + l .m + 1 ≡ 8 * k + (l .m + 1) = omega arith in (
+      omega arith,
+      total-more _ _ (l .inv .1) (pulse-is _ (c .before .before .before .before .before .before .before .before .before .before .before .before .before .before .args .message .now) k (l .m) h (c .before .before .bit-of .ensures) (c .before .pulse-norm .ensures))
+          ∙ ap (total (pulseNorm (c .before .before .before .before .before .before .before .before .before .before .before .before .before .before .args .symbols .now) (c .before .before .before .before .before .before .before .before .before .before .before .before .before .before .args .message .now))) e,
+      total-more _ _ (l .inv .2) (empty-is _ (c .before .before .before .before .before .before .before .before .before .before .before .before .before .before .args .message .now) k (l .m) h (c .before .before .bit-of .ensures) (c .empty-norm .ensures))
+          ∙ ap (total (emptyNorm (c .before .before .before .before .before .before .before .before .before .before .before .before .before .before .args .samples .now) (c .before .before .before .before .before .before .before .before .before .before .before .before .before .before .args .message .now))) e,
+    )
+
+add-k : tie.Need-add-k Inv-loop2 μ-loop2 Inv-loop μ-loop
+add-k c = search needs
+
+loop-less : tie.Need-loop-less Inv-loop2 μ-loop2 Inv-loop μ-loop
 loop-less c = search needs
 
-loop-again : tie.Need-loop-again Inv-loop μ-loop
+loop-again : tie.Need-loop-again Inv-loop2 μ-loop2 Inv-loop μ-loop
 loop-again c =
-    let l = c .before .before .before .loop in
-    (search needs, total-more _ _ (l .inv .1) (c .before .pulse-norm .ensures), total-more _ _ (l .inv .2) (c .empty-norm .ensures))
+    let l = c .before .loop2 in
+    let k = c .before .before .before .before .loop .k in
+    let e : 8 * k + l .m ≡ 8 * (k + 1) = omega (arith, c .loop2-test .left, l .inv .0) in
+    (omega (arith, c .before .before .before .loop-test .taken), l .inv .1 ∙ ap (total (pulseNorm (c .before .before .before .before .before .before .before .before .before .before .before .args .symbols .now) (c .before .before .before .before .before .before .before .before .before .before .before .args .message .now))) e, l .inv .2 ∙ ap (total (emptyNorm (c .before .before .before .before .before .before .before .before .before .before .before .args .samples .now) (c .before .before .before .before .before .before .before .before .before .before .before .args .message .now))) e)
 
-returns-4 : tie.Need-returns-4 Inv-loop μ-loop
+returns-4 : tie.Need-returns-4 Inv-loop2 μ-loop2 Inv-loop μ-loop
 unfolding powersAt powerOf noiseOf
 returns-4 c =
     let l = c .before .loop in
-    let e : l .j ≡ 112 = omega (arith, l .inv .0, c .loop-test .left) in
+    let e : l .k ≡ 14 = omega (arith, l .inv .0, c .loop-test .left) in
     simp (eq-eqb _ _ (c .before .before .before .before .if1 .left), eq-eqb _ _ (c .before .before .before .if2 .left), eq-eqb _ _ (c .before .before .if3 .left))
     (rw (l .inv .1, l .inv .2, e))
 
@@ -61,15 +116,25 @@ pub postdecode-powers-spec : {M : Type 1} → statement M
 postdecode-powers-spec =
     tie.close
     (tie.spec
+    Inv-loop2
+    μ-loop2
     Inv-loop
     μ-loop
     returns
     returns-2
     returns-3
     loop-holds
+    shared-slice-read-byte
+    loop2-holds
+    mul-j
+    add-j
+    bit-of-requires
     pulse-norm-requires
     empty-norm-requires
-    add-j
+    add-m
+    loop2-less
+    loop2-again
+    add-k
     loop-less
     loop-again
     returns-4)

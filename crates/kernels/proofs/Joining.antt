@@ -132,12 +132,12 @@ module _ (slicer : Slicer) (row : List Float) where
       (tabulate-is 0 (λ (k : ℕ). value streamBit (8 * k) 8) 36 (p ++ q) (streams-length slicer row)
       (λ k h. elim (ℕ-discrete (k / 18) 0) [
         | yes first ↦
-          let a : 18 * 0 + k ≡ k = omega arith in
-          List·getD-append p q 0 k (rw e (omega arith)) ∙ (byte-is 0 k (omega arith) ∙ rw a)
+            let a : 18 * 0 + k ≡ k = omega arith in
+            List·getD-append p q 0 k (rw e (omega arith)) ∙ (byte-is 0 k (omega arith) ∙ rw a)
         | no second ↦
-          let a : 18 * 1 + (k - 18) ≡ k = omega arith in
-          let b : k ≡ length p + (k - 18) = rw e (omega arith) in
-          ap (λ (m : ℕ). getD (p ++ q) m 0) b ∙ (getD-append-add p q (k - 18) 0 ∙ (byte-is 1 (k - 18) (omega arith) ∙ rw a))
+            let a : 18 * 1 + (k - 18) ≡ k = omega arith in
+            let b : k ≡ length p + (k - 18) = rw e (omega arith) in
+            ap (λ (m : ℕ). getD (p ++ q) m 0) b ∙ (getD-append-add p q (k - 18) 0 ∙ (byte-is 1 (k - 18) (omega arith) ∙ rw a))
       ]))
 
   pub bytes-are : {bits p : List ℕ} → bits ≡ bitsOf slicer row → p ≡ bytesOf bits → p ≡ streamsOf slicer row

@@ -13,11 +13,7 @@ ghost use Rattle.kernels.specs.Joins.{normsOf, bitsOf, apartOf, joined, 
 fn bit(t: bool) -> u8
     ensures { λ r. ⌜ r ≡ digit t ⌝ }
 {
-    if t {
-        1
-    } else {
-        0
-    }
+    if t { 1 } else { 0 }
 }
 
 // The bits of both streams in turn, by real parts. The last symbol has none after it.

@@ -34,7 +34,7 @@ loop-holds : tie.Need-loop-holds Inv-loop2 μ-loop2 Inv-loop μ-loop
 loop-holds c = (search needs, done-none _ _ _ _ (c .before .before .before .before .before .pre .1))
 
 loop2-holds : tie.Need-loop2-holds Inv-loop2 μ-loop2 Inv-loop μ-loop
-loop2-holds c = 
+loop2-holds c =
     let e : 576 * c .before .loop .k + 2 * 0 ≡ 576 * c .before .loop .k = omega arith in
     (search needs, rw e (c .before .loop .inv .1))
 
@@ -111,7 +111,7 @@ loop-less : tie.Need-loop-less Inv-loop2 μ-loop2 Inv-loop μ-loop
 loop-less c = search needs
 
 loop-again : tie.Need-loop-again Inv-loop2 μ-loop2 Inv-loop μ-loop
-loop-again c = 
+loop-again c =
     let k = c .before .before .before .loop .k in
     let e : 576 * k + 2 * c .before .loop2 .n ≡ 576 * (k + 1) = omega arith in
     (search needs, rw e at (c .before .loop2 .inv .1))

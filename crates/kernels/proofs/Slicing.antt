@@ -1,24 +1,26 @@
 -- Laws of slicing.
---     real-bit, norm-bit          a bit with two symbols, by real parts and by norms
---     bits-done                   the bits of both streams in turn
+--     bit-inside                  a bit with two symbols
+--     real-bit, norm-bit          the same in a loop over the bits of both streams in turn
+--     bits-done                   all of them are stored
 --     slicedBit-lt                a bit is below 2
 --     sliced-length, bit-sliced   a stream has 18 bytes, and its bits are those of the slicer
 --     streams-first, -second      both streams, one after the other
 --     demodulated-done            the answer where nothing is refused
 -- Assumes nothing.
 use mathlib.Core.Path.{_≡_, refl, _∙_}
-use mathlib.Core.List.{List, _++_, append-nil}
+use mathlib.Core.List.{List}
 use mathlib.Core.Bool.{Bool, true, false, cond}
 use Prim.Native.Nat.{ℕ, _+_, _*_, _/_, _%_, _<_, _≤_}
 use native.Mathlib.Omega.{arith}
 use borrow.Author.Tests.{lt-ltb, eq-eqb}
 use lib.Dec.{ltb, lit<}
-use lib.ListN.{length, getD, set, take, drop, length-append, length-drop, drop-of-length-le}
+use lib.ListN.{length, getD, set, take, drop, length-append}
 use lib.Seq.{take-at, drop-at}
 use lib.Ieee.{Float, lt, nan}
 use Rattle.lists.specs.Bits.{bitAt, value, packed}
 use Rattle.lists.proofs.Table.{Done, done-more, done-all, length-tabulate, getD-tabulate}
 use Rattle.lists.proofs.Bits.{bitAt-packed}
+use Rattle.math.specs.declared.Complex.{Complex}
 use Rattle.math.specs.Complex.{normOf}
 use Rattle.place.specs.declared.Slicer.{Slicer}
 use Rattle.place.specs.declared.Slicer.the-variants.{Coherent, Noncoherent}
@@ -26,13 +28,18 @@ use Rattle.kernels.specs.Symbols.{complexAt}
 use Rattle.kernels.specs.Slices.{greaterBy, digit, slicedBit, sliced, streamsOf, demodulated}
 use Rattle.kernels.specs.Joins.{normsOf, bitsOf}
 
+pub bit-inside : (slicer : Slicer) (row : List Float) (stream i : ℕ) {z w : Complex} {t : Bool} → 2 * i + stream + 1 < 288
+    → z ≡ complexAt row (2 * i + stream) → w ≡ complexAt row (2 * i + stream + 1) → t ≡ greaterBy slicer z w
+    → digit t ≡ slicedBit slicer row stream i
+unfolding slicedBit
+bit-inside slicer row stream i h e f g = rw (lt-ltb _ _ h, g, e, f)
+
 -- the bits of both streams in turn: bit j compares symbols j and j + 1
 in-turn : (slicer : Slicer) (row : List Float) (j : ℕ) → j < 287
     → digit (greaterBy slicer (complexAt row j) (complexAt row (j + 1))) ≡ slicedBit slicer row (j % 2) (j / 2)
-unfolding slicedBit
 in-turn slicer row j h =
     let q : 2 * (j / 2) + j % 2 ≡ j = omega arith in
-    rw (q, lt-ltb (j + 1) 288 (omega arith))
+    bit-inside slicer row (j % 2) (j / 2) (omega arith) (rw q) (rw q) refl
 
 pub real-bit : (row : List Float) (j : ℕ) {b : ℕ} → j < 287 → b ≡ digit (lt (getD row (2 * (j + 1)) nan) (getD row (2 * j) nan))
     → b ≡ slicedBit Coherent row (j % 2) (j / 2)
@@ -92,15 +99,6 @@ module _ (slicer : Slicer) (row : List Float) where
   pub streams-length : length (streamsOf slicer row) ≡ 36
   unfolding streamsOf
   streams-length = rw (length-append, sliced-length 0, sliced-length 1)
-
-  -- the two streams are stored one after the other, each in its part of 36 bytes
-  pub streams-stored : (xs p q : List ℕ) → length xs ≡ 36 → p ≡ sliced slicer row 0 → q ≡ sliced slicer row 1
-      → take 18 (p ++ drop 18 xs) ++ (q ++ drop 18 (drop 18 (p ++ drop 18 xs))) ≡ streamsOf slicer row
-  unfolding streamsOf
-  streams-stored xs p q h e f =
-      let l : length p ≡ 18 = rw e (sliced-length 0) in
-      let k : length (drop 18 xs) ≤ 18 = simp length-drop (omega arith) in
-      rw (take-at p (drop 18 xs) 18 l, drop-at p (drop 18 xs) 18 l, drop-of-length-le (drop 18 xs) k, append-nil q, e, f)
 
 pub demodulated-done : (row : List Float) (coherent noncoherent : List ℕ) → length row ≡ 576 → length coherent ≡ 36 → length noncoherent ≡ 36
     → demodulated row coherent noncoherent ≡ (0, streamsOf Coherent row, streamsOf Noncoherent row)

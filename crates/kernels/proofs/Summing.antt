@@ -1,20 +1,21 @@
 -- Laws of symbol sums.
---     pair-more             a turn of the loop
+--     pair-more             a turn of the innermost loop
+--     block-starts, -ends   before the loops of a block, and after them
 --     symbols-length        there are 2,304 numbers
 --     symbol-stands         where a symbol stands
 --     complex-part          complex numbers of a part of a row
 --     row-symbol            a row by itself holds the symbols of its phase
 --     accumulated-done      the answer where nothing is refused
 -- Assumes nothing.
-use mathlib.Core.Path.{_≡_, _∙_}
+use mathlib.Core.Path.{_≡_, sym, _∙_}
 use mathlib.Core.List.{List}
-use Prim.Native.Nat.{ℕ, _+_, _*_, _/_, _%_, _<_}
+use Prim.Native.Nat.{ℕ, _+_, _-_, _*_, _/_, _%_, _<_, _≤_}
 use native.Mathlib.Omega.{arith}
 use borrow.Author.Tests.{eq-eqb}
 use lib.ListN.{length, getD, set, take, drop}
 use lib.Seq.{getD-take, getD-drop}
 use lib.Ieee.{Float, nan}
-use Rattle.lists.proofs.Table.{Done, done-more, length-tabulate, getD-tabulate}
+use Rattle.lists.proofs.Table.{Where, where-more, length-tabulate, getD-tabulate}
 use Rattle.kernels.specs.Symbols.{complexAt, sumFrom, symbolOf, numberOf, symbolsOf, accumulated}
 use Rattle.kernels.specs.Running.{fourFrom, runningSums}
 
@@ -60,20 +61,53 @@ module _ (s : List Float) (k n : ℕ) (l : n < 288) where
       let d : i / 2 % 288 ≡ n = rw h (omega arith) in
       rw (a, b, d)
 
--- symbol n of phase k is stored after those before it
-pub pair-more : (s xs sums : List Float) (k n : ℕ) → k < 4 → n < 288 → sums ≡ runningSums s
-    → Done nan (numberOf s) 2304 xs (576 * k + 2 * n)
-    → Done nan (numberOf s) 2304 (set (set xs (576 * k + 2 * n) (getD sums (2 * (4 * n + k)) nan)) (576 * k + 2 * n + 1) (getD sums (2 * (4 * n + k) + 1) nan)) (576 * k + 2 * (n + 1))
+-- the numbers that stand stored: the first 16 × block of each row, and the first t of the block, row after row
+abbrev pub Stored : ℕ → ℕ → ℕ → Type 0
+Stored block t j = (j % 576 < 16 * block + 16) × (j % 576 < 16 * block + (t - 16 * (j / 576)))
+
+-- number e of row k of the block is the one that is stored next
+next : (block k e r c : ℕ) → e < 16 → c < 16 * block + 16 → c < 16 * block + (16 * k + e + 1 - 16 * r) → (576 * r + c ≡ 576 * k + 16 * block + e → ⊥)
+    → c < 16 * block + (16 * k + e - 16 * r)
+next block k e r c he hc h other = omega arith
+
+stored-next : (block k e j : ℕ) → e < 16 → Stored block (16 * k + e + 1) j → (j ≡ 576 * k + 16 * block + e → ⊥) → Stored block (16 * k + e) j
+stored-next block k e j he q other =
+    let d : 576 * (j / 576) + j % 576 ≡ j = omega arith in
+    (q .0, next block k e (j / 576) (j % 576) he (q .0) (q .1) (λ x. other (sym d ∙ x)))
+
+-- symbol n of phase k of a block is stored after those before it
+pub pair-more : (s xs sums : List Float) (block k n : ℕ) → block < 36 → k < 4 → n < 8 → sums ≡ runningSums s block
+    → Where nan (numberOf s) 2304 xs (Stored block (16 * k + 2 * n))
+    → Where nan (numberOf s) 2304 (set (set xs (576 * k + 2 * (8 * block + n)) (getD sums (2 * (4 * n + k)) nan)) (576 * k + 2 * (8 * block + n) + 1) (getD sums (2 * (4 * n + k) + 1) nan)) (Stored block (16 * k + 2 * (n + 1)))
 unfolding symbolOf runningSums
-pair-more s xs sums k n hk hn e r =
-    let i = 576 * k + 2 * n in
-    let j = 4 * n + k in
-    let m : 576 * k + 2 * (n + 1) ≡ i + 1 + 1 = omega arith in
-    rw m
-    (done-more nan (numberOf s) 2304 (set xs i (getD sums (2 * j) nan)) (i + 1) (getD sums (2 * j + 1) nan) (omega arith)
-    (done-more nan (numberOf s) 2304 xs i (getD sums (2 * j) nan) (omega arith) r
-    (rw (e, getD-tabulate 2304 (fourFrom s) (2 * j) nan (omega arith), re-is s k n hn) (four-re s j)))
-    (rw (e, getD-tabulate 2304 (fourFrom s) (2 * j + 1) nan (omega arith), im-is s k n hn) (four-im s j)))
+pair-more s xs sums block k n hb hk hn e r =
+    let i = 576 * k + 2 * (8 * block + n) in
+    let from = 2 * (4 * n + k) in
+    let j = 4 * (8 * block + n) + k in
+    let t = 16 * k + 2 * n in
+    let f : ℕ → Float = λ (m : ℕ). fourFrom s (64 * block + m) in
+    let a : 64 * block + from ≡ 2 * j = omega arith in
+    let b : 64 * block + (from + 1) ≡ 2 * j + 1 = omega arith in
+    let l : 8 * block + n < 288 = omega arith in
+    let u : 16 * k + (2 * n + 1) + 1 ≡ 16 * k + 2 * (n + 1) = omega arith in
+    let v : 576 * k + 16 * block + (2 * n + 1) ≡ i + 1 = omega arith in
+    let w : 576 * k + 16 * block + 2 * n ≡ i = omega arith in
+    let z : 16 * k + (2 * n + 1) ≡ 16 * k + 2 * n + 1 = omega arith in
+    where-more nan (numberOf s) 2304 (set xs i (getD sums from nan)) (Stored block (16 * k + (2 * n + 1))) (Stored block (16 * k + 2 * (n + 1))) (i + 1) (getD sums (from + 1) nan) (omega arith)
+    (rw (e, getD-tabulate 64 f (from + 1) nan (omega arith), im-is s k (8 * block + n) l, b) (four-im s j))
+    (λ m h q other. stored-next block k (2 * n + 1) m (omega arith) (rw u q) (λ x. other (x ∙ v)))
+    (where-more nan (numberOf s) 2304 xs (Stored block t) (Stored block (16 * k + (2 * n + 1))) i (getD sums from nan) (omega arith)
+    (rw (e, getD-tabulate 64 f from nan (omega arith), re-is s k (8 * block + n) l, a) (four-re s j))
+    (λ m h q other. stored-next block k (2 * n) m (omega arith) (rw (← z) q) (λ x. other (x ∙ w)))
+    r)
+
+-- before the loops of a block, and after them
+module _ (s xs : List Float) (block : ℕ) where
+  pub block-starts : Where nan (numberOf s) 2304 xs (λ (j : ℕ). j % 576 < 16 * block) → Where nan (numberOf s) 2304 xs (Stored block (16 * 0))
+  block-starts r = record { size = r .size; each = λ j h q. r .each j h (omega arith) }
+
+  pub block-ends : (k : ℕ) → 4 ≤ k → Where nan (numberOf s) 2304 xs (Stored block (16 * k)) → Where nan (numberOf s) 2304 xs (λ (j : ℕ). j % 576 < 16 * (block + 1))
+  block-ends k l r = record { size = r .size; each = λ j h q. r .each j h (omega arith, omega arith) }
 
 pub symbols-length : (s : List Float) → length (symbolsOf s) ≡ 2304
 unfolding symbolsOf

@@ -1,6 +1,6 @@
 -- `kernels::symbols::running_sums` meets its contract. The loop: the first i sums are stored. Assumes nothing.
 use mathlib.Core.Path.{refl}
-use Prim.Native.Nat.{_-_, _≤_}
+use Prim.Native.Nat.{ℕ, _+_, _*_, _-_, _≤_}
 use native.Mathlib.Omega.{arith}
 use lib.Ieee.{nan}
 use Rattle.lists.proofs.Table.{Done, done-none, done-more, done-all}
@@ -10,13 +10,19 @@ use Rattle.kernels.proofs.symbols.running_sums.Statement.{statement}
 use Rattle.kernels.proofs.symbols.running_sums.Tie as tie
 
 abbrev Inv-loop : tie.InvT-loop
-Inv-loop samples sums₀ i₀ sums i = (i ≤ 2304) × Done nan (fourFrom samples) 2304 sums i
+Inv-loop samples block sums₀ i₀ sums i = (i ≤ 64) × Done nan (λ (k : ℕ). fourFrom samples (64 * block + k)) 64 sums i
 
 abbrev μ-loop : tie.MeasureT-loop
-μ-loop samples sums₀ i₀ sums i = 2304 - i
+μ-loop samples block sums₀ i₀ sums i = 64 - i
 
 loop-holds : tie.Need-loop-holds Inv-loop μ-loop
-loop-holds c = (search needs, done-none _ _ _ _ (c .pre .1))
+loop-holds c = (search needs, done-none _ _ _ _ (c .pre .2))
+
+mul-j : tie.Need-mul-j Inv-loop μ-loop
+mul-j c = search needs
+
+add-j : tie.Need-add-j Inv-loop μ-loop
+add-j c = search needs
 
 mul-sums : tie.Need-mul-sums Inv-loop μ-loop
 mul-sums c = search needs
@@ -81,6 +87,8 @@ running-sums-spec =
     Inv-loop
     μ-loop
     loop-holds
+    mul-j
+    add-j
     mul-sums
     shared-slice-read-sums
     add-sums

@@ -1,4 +1,5 @@
 // Bits of symbols: each bit compares two symbols that follow one another.
+// All bits of a row are found in one loop and joined to bytes in others: such loops are done on many numbers at once.
 use crate::complex::complex_at;
 use math::Complex;
 use place::Slicer;
@@ -27,6 +28,7 @@ fn compare_reals(row: &[f32], bits: &mut [u8])
     bits[287] = 0;
 }
 
+// The norms, each found once.
 fn find_norms(row: &[f32], norms: &mut [f32])
     requires { ⌜ (length (now row) ≡ 576) × (length (now norms) ≡ 288) ⌝ }
     ensures { λ _. ⌜ now (norms .exit) ≡ normsOf (now (row .entry)) ⌝ }

@@ -4,10 +4,16 @@ use mathlib.Core.Path.{refl}
 use denote.Ref.{now}
 use Rattle.outcomes.specs.Outcome.{Fixed, answer}
 use Rattle.outcomes.proofs.Law.{fixes, answer-set}
+use Rattle.kernels.proofs.both.postdecode_powers as both-postdecode-powers
 use Rattle.kernels.proofs.power.postdecode_power as power-postdecode-power
 use Rattle.kernels.proofs.power.postdecode_noise_power as power-postdecode-noise-power
 use Rattle.kernels.proofs.slicers.demodulate as slicers-demodulate
 use Rattle.kernels.proofs.symbols.accumulate_symbols as symbols-accumulate-symbols
+
+pub both-postdecode-powers-fixed : Fixed both-postdecode-powers.ended (answer _) (λ M 𝓤 H. both-postdecode-powers.clauses 𝓤 H) (λ M 𝓤 H. both-postdecode-powers.spec 𝓤 H)
+both-postdecode-powers-fixed =
+    fixes both-postdecode-powers.ended _ (answer-set both-postdecode-powers.ended) refl (λ κs. refl)
+    (λ κs a r e. r) (λ κs a y. (y, (tt, (tt, (tt, tt))))) (λ κs a r ws. refl)
 
 pub power-postdecode-power-fixed : Fixed power-postdecode-power.ended (answer _) (λ M 𝓤 H. power-postdecode-power.clauses 𝓤 H) (λ M 𝓤 H. power-postdecode-power.spec 𝓤 H)
 power-postdecode-power-fixed =

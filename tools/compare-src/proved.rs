@@ -19,24 +19,13 @@ pub struct Found {
     pub second: u32,
 }
 
+// The library's functions are declared once, for its callers in Rust.
+#[allow(dead_code)]
+#[path = "../../bindings/rust/src/raw.rs"]
+mod raw;
+
 #[link(name = "khlongrae", kind = "static")]
-unsafe extern "C" {
-    fn khlongrae_decode(
-        samples: *const f32,
-        samples_len: usize,
-        level: u32,
-        threshold: f32,
-        second: f32,
-        distance: u32,
-        index: u64,
-        message: *mut u8,
-        message_len: usize,
-        words: *mut u64,
-        words_len: usize,
-        numbers: *mut f32,
-        numbers_len: usize,
-    ) -> u32;
-}
+unsafe extern "C" {}
 
 #[link(name = "probes", kind = "static")]
 unsafe extern "C" {
@@ -57,7 +46,7 @@ unsafe extern "C" {
 /// The number, and the lent memory as it was left.
 pub fn decode_into(samples: &[f32], s: Settings, index: u64, message: &mut [u8], words: &mut [u64], numbers: &mut [f32]) -> u32 {
     unsafe {
-        khlongrae_decode(
+        raw::khlongrae_decode(
             samples.as_ptr(),
             samples.len(),
             s.level,

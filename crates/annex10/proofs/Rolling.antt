@@ -2,8 +2,8 @@
 --     rolled     times x; plus the bit that enters, times x^24; plus the bit that leaves, times x^24 and the length
 -- Assumes nothing.
 use mathlib.Core.Path.{_≡_, refl, sym, ap, ap₂, _∙_}
-use mathlib.Core.List.{List, [], _∷_, _++_}
-use Prim.Native.Nat.{ℕ, zero, suc, _+_, _*_, _/_, _%_, _^_, _<_}
+use mathlib.Core.List.{List, _∷_, _++_}
+use Prim.Native.Nat.{ℕ, zero, suc, _+_, _*_, _^_, _<_}
 use native.Mathlib.Nat.{add-zero, add-suc, suc-add, zero-add, lt-trans}
 use native.Mathlib.Omega.{arith}
 use lib.Dec.{lit<}
@@ -16,7 +16,7 @@ use Rattle.lists.proofs.Bits.{value-bit}
 use Rattle.lists.proofs.Xor.{xor-back}
 use Rattle.annex10.specs.Remainder.{bring, divide, bitsOf, bits, remainder}
 use Rattle.annex10.specs.Division.{AreBits, xors}
-use Rattle.annex10.proofs.Linear.{bring-linear, bring-lt, bring-small, divide-append, divide-linear, divide-lt, are-zeros}
+use Rattle.annex10.proofs.Linear.{bring-linear, bring-small, divide-append, divide-linear, divide-lt, are-zeros}
 use Rattle.annex10.proofs.Bytewise.{shift, shift-shift, shift-linear, shift-lt}
 
 -- ---- lists of bits that are given by their places

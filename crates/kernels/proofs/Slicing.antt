@@ -4,7 +4,7 @@
 --     bits-done                   all of them are stored
 --     slicedBit-lt                a bit is below 2
 --     sliced-length, bit-sliced   a stream has 18 bytes, and its bits are those of the slicer
---     streams-first, -second      both streams, one after the other
+--     streams-length              both streams, one after the other
 --     demodulated-done            the answer where nothing is refused
 -- Assumes nothing.
 use mathlib.Core.Path.{_≡_, refl, _∙_}
@@ -14,8 +14,7 @@ use Prim.Native.Nat.{ℕ, _+_, _*_, _/_, _%_, _<_, _≤_}
 use native.Mathlib.Omega.{arith}
 use borrow.Author.Tests.{lt-ltb, eq-eqb}
 use lib.Dec.{ltb, lit<}
-use lib.ListN.{length, getD, set, take, drop, length-append}
-use lib.Seq.{take-at, drop-at}
+use lib.ListN.{length, getD, set, length-append}
 use lib.Ieee.{Float, lt, nan}
 use Rattle.lists.specs.Bits.{bitAt, value, packed}
 use Rattle.lists.proofs.Table.{Done, done-more, done-all, length-tabulate, getD-tabulate}
@@ -87,14 +86,6 @@ module _ (slicer : Slicer) (row : List Float) where
   pub bit-sliced : (stream i : ℕ) → i < 144 → bitAt (sliced slicer row stream) i ≡ slicedBit slicer row stream i
   unfolding sliced
   bit-sliced stream i h = bitAt-packed (slicedBit slicer row stream) (slicedBit-lt slicer row stream) 18 i (omega arith)
-
-  pub streams-first : take 18 (streamsOf slicer row) ≡ sliced slicer row 0
-  unfolding streamsOf
-  streams-first = take-at (sliced slicer row 0) (sliced slicer row 1) 18 (sliced-length 0)
-
-  pub streams-second : drop 18 (streamsOf slicer row) ≡ sliced slicer row 1
-  unfolding streamsOf
-  streams-second = drop-at (sliced slicer row 0) (sliced slicer row 1) 18 (sliced-length 0)
 
   pub streams-length : length (streamsOf slicer row) ≡ 36
   unfolding streamsOf

@@ -1,7 +1,6 @@
 // Bits of symbols: each bit compares two symbols that follow one another.
 // All bits of a row are found in one loop and joined to bytes in others: such loops are done on many numbers at once.
 use crate::complex::complex_at;
-use math::Complex;
 use place::Slicer;
 ghost use mathlib.Core.Path.{_≡_};
 ghost use Prim.Native.Nat.{_*_, _<_, _≤_};

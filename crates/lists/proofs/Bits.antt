@@ -1,17 +1,15 @@
 -- Laws of bits and bytes.
---     value-more                 a bit is shifted in
 --     bitAt-packed               the bits of packed bytes
 --     byte-whole, byte-across    eight bits that start at a byte, and inside one
 -- Assumes nothing.
 use mathlib.Core.Path.{_≡_, refl, sym, ap, _∙_, subst}
 use mathlib.Core.List.{List}
-use Prim.Native.Nat.{ℕ, zero, suc, _+_, _-_, _*_, _/_, _%_, _^_, _<_, _≤_}
-use native.Mathlib.Nat.{pow-succ', pow-suc, div-div-eq-div-mul, le-of-suc-le-suc, mod-eq-of-lt, add-zero, add-suc, mul-assoc, mul-mod-left, div-one}
-use native.Mathlib.Numerals.{add-one}
+use Prim.Native.Nat.{ℕ, zero, suc, _+_, _-_, _*_, _/_, _%_, _^_, _<_}
+use native.Mathlib.Nat.{pow-succ', pow-suc, div-div-eq-div-mul, mod-eq-of-lt, add-zero, add-suc, mul-assoc, mul-mod-left, div-one}
 use native.Mathlib.Omega.{arith}
 use lib.ListN.{getD}
 use lib.Bits.{bitOr, or-shifted}
-use lib.Pow.{pow-mono, pow-pos, pow-add, shr-lt, shl-shr}
+use lib.Pow.{pow-pos, pow-add, shr-lt, shl-shr}
 use lib.Arith.{mod-mul}
 use lib.Dec.{lit<}
 use Rattle.lists.specs.Bits.{bitAt, value, packed}
@@ -26,16 +24,6 @@ module _ (f : ℕ → ℕ) (bit : (i : ℕ) → f i < 2) where
   unfolding value
   value-lt j zero = omega arith
   value-lt j (suc n) = rw (pow-suc 2 n) (omega (arith, value-lt j n, bit (j + n)))
-
-  -- a bit is shifted in
-  pub value-more : (j n : ℕ) {b x : ℕ} → n < 8 → b ≡ value f j n → x ≡ f (j + n) → bitOr (b * 2 % 256) x ≡ value f j (n + 1)
-  unfolding value
-  value-more j n {b} {x} h e g =
-      let l : value f j n < 2 ^ n = value-lt j n in
-      let p : 2 ^ n ≤ 2 ^ 7 = pow-mono (le-of-suc-le-suc h) in
-      let s : b * 2 % 256 ≡ b * 2 = omega arith in
-      let u : x < 2 ^ 1 = omega (arith, bit (j + n)) in
-      rw (s, add-one n) (or-shifted b 1 x u ∙ rw (e, g))
 
   -- the bit of weight 2 ^ e of n bits is the one that e bits follow
   pub value-bit : (j n m e : ℕ) → n ≡ m + e + 1 → value f j n / 2 ^ e % 2 ≡ f (j + m)

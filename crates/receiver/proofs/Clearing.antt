@@ -3,15 +3,13 @@
 --     told-there                 what they say of a place
 --     none-there                 where neither code says anything, the place holds nothing
 -- Assumes nothing.
-use mathlib.Core.Path.{_≡_, refl, sym, ap, ap₂, _∙_, subst}
-use mathlib.Core.Bool.{Bool, true, false, _||_, not, cond}
+use mathlib.Core.Path.{_≡_, refl, sym, ap, ap₂, _∙_}
+use mathlib.Core.Bool.{Bool, true, false, _||_, not}
 use mathlib.Core.List.{List, _++_, append-nil}
-use mathlib.Core.Option.{none}
-use Prim.Native.Nat.{ℕ, _+_, _-_, _*_, _/_, _%_, _<_, _≤_, min}
-use native.Mathlib.Nat.{add-comm}
+use Prim.Native.Nat.{ℕ, _+_, _-_, _*_, _/_, _%_, _<_, _≤_}
 use native.Mathlib.Omega.{arith}
-use borrow.Author.Tests.{eq-eqb, ltb-true, ltb-false, le-leb}
-use lib.Dec.{eqb, ltb, leb}
+use borrow.Author.Tests.{eq-eqb, ltb-false, le-leb}
+use lib.Dec.{eqb, ltb}
 use lib.ListN.{length, getD, take, drop, length-take, length-drop, length-append, drop-of-length-le}
 use lib.Seq.{take-at, drop-at, getD-take, getD-drop}
 use Rattle.lists.proofs.Table.{length-tabulate, getD-tabulate}
@@ -20,9 +18,8 @@ use Rattle.annex10.specs.Any.{clearingAny}
 use Rattle.annex10.specs.declared.Found.{Found}
 use Rattle.annex10.specs.declared.Found.the-variants.{Nothing}
 use Rattle.place.specs.declared.Place.{Place}
-use Rattle.place.specs.declared.Slicer.the-variants.{Coherent, Noncoherent}
-use Rattle.place.specs.All.{listed, placeAt}
-use Rattle.place.proofs.Within.{Listed, listed-gives}
+use Rattle.place.specs.All.{listed}
+use Rattle.place.proofs.Within.{listed-gives}
 use Rattle.streams.specs.Streams.{messageAt}
 use Rattle.streams.specs.Rolling.{crcOf, crcsOf, crcsInto}
 use Rattle.streams.proofs.Parting.{message-stream}

@@ -4,7 +4,7 @@
 --     tried-pass, tried-fail    what the six trials answer, and that they are never refused
 --     read-pass, read-fail      what survives
 -- Assumes nothing.
-use mathlib.Core.Path.{_≡_, refl, sym, ap, _∙_}
+use mathlib.Core.Path.{_≡_, sym, _∙_}
 use mathlib.Core.Bool.{Bool, true, false, cond}
 use mathlib.Core.List.{List}
 use mathlib.Core.Option.{none, some}
@@ -34,7 +34,7 @@ use Rattle.search.proofs.Passing.{sound}
 use Rattle.trials.specs.declared.six.TriedAt.{TriedAt}
 use Rattle.trials.specs.declared.six.TriedAt.the-variants.{Pass, Fail, Refused}
 use Rattle.trials.specs.Tries.{triedOf, tryWith}
-use Rattle.trials.proofs.Answering.{try-is}
+use Rattle.trials.proofs.Answering as Answering
 use Rattle.receiver.specs.Inner.{Streams, Told, seenAt}
 
 -- ---- the filter
@@ -63,31 +63,19 @@ module _ (samples row : List Float) (coherent noncoherent : List ℕ) (p : Place
 
     tried-is : {c d : Found} {apart : Bool} {t : TriedAt} → Streams coherent noncoherent (p .bit) → level ≤ 2
         → Told coherent noncoherent (p .bit) c d apart → t ≡ tryWith level coherent noncoherent (p .bit) c d apart → t ≡ triedOf 0 read
-    tried-is s l k et = et ∙ try-is level coherent noncoherent (p .bit) (s .first) (s .second) l (s .low) (k .first) (k .second) (k .differ)
-
-    passed : (t : Tried) {r : Reading} → triedOf 0 t ≡ Pass r → t ≡ T.Pass r
-    passed (T.Pass q) {r} e = let z : q ≡ r = cc in ap T.Pass z
-    passed T.Fail {r} e = let z : _≡_ {A = ℕ} 0 1 = cc in absurd (omega arith)
-
-    failed : (t : Tried) → triedOf 0 t ≡ Fail → t ≡ T.Fail
-    failed (T.Pass q) e = let z : _≡_ {A = ℕ} 0 1 = cc in absurd (omega arith)
-    failed T.Fail e = refl
-
-    unrefused : {B : Type 0} (t : Tried) {n : ℕ} → triedOf 0 t ≡ Refused n → B
-    unrefused (T.Pass q) e = let z : _≡_ {A = ℕ} 0 1 = cc in absurd (omega arith)
-    unrefused T.Fail e = let z : _≡_ {A = ℕ} 0 1 = cc in absurd (omega arith)
+    tried-is s l k et = et ∙ Answering.try-is level coherent noncoherent (p .bit) (s .first) (s .second) l (s .low) (k .first) (k .second) (k .differ)
 
     pub tried-pass : {c d : Found} {apart : Bool} {t : TriedAt} {r : Reading} → Streams coherent noncoherent (p .bit) → level ≤ 2
         → Told coherent noncoherent (p .bit) c d apart → t ≡ tryWith level coherent noncoherent (p .bit) c d apart → t ≡ Pass r → read ≡ T.Pass r
-    tried-pass s l k et er = passed read (sym (tried-is s l k et) ∙ er)
+    tried-pass s l k et er = Answering.tried-pass read (sym er ∙ tried-is s l k et)
 
     pub tried-fail : {c d : Found} {apart : Bool} {t : TriedAt} → Streams coherent noncoherent (p .bit) → level ≤ 2
         → Told coherent noncoherent (p .bit) c d apart → t ≡ tryWith level coherent noncoherent (p .bit) c d apart → t ≡ Fail → read ≡ T.Fail
-    tried-fail s l k et er = failed read (sym (tried-is s l k et) ∙ er)
+    tried-fail s l k et er = Answering.tried-fail read (sym er ∙ tried-is s l k et)
 
     pub tried-never : {B : Type 0} {c d : Found} {apart : Bool} {k : ℕ} {t : TriedAt} → Streams coherent noncoherent (p .bit) → level ≤ 2
         → Told coherent noncoherent (p .bit) c d apart → t ≡ tryWith level coherent noncoherent (p .bit) c d apart → t ≡ Refused k → B
-    tried-never s l k et er = unrefused read (sym (tried-is s l k et) ∙ er)
+    tried-never s l k et er = absurd (Answering.tried-taken read (sym er ∙ tried-is s l k et))
 
     -- the positions of a reading lie in the message
     pub reading-inside : {r : Reading} → read ≡ T.Pass r → inside 14 (r .repairs) ≡ true

@@ -23,7 +23,6 @@ ghost use Prim.Native.Nat.{_≤_};
 ghost use lib.ListN.{length};
 ghost use Rattle.annex10.specs.Repair.{inside};
 ghost use Rattle.place.specs.Step.{within};
-ghost use Rattle.place.specs.All.{listed};
 ghost use Rattle.streams.specs.Streams.{messageAt};
 ghost use Rattle.streams.specs.Distances.{differing};
 ghost use Rattle.search.specs.Choice.{candidate, dropped, candidateAt};

@@ -3,26 +3,21 @@ use crate::codes::all_crcs;
 use crate::find::find;
 use crate::find::read_at;
 use crate::rows::demodulate_rows;
-use crate::subsample::subsample;
 use kernels::symbols::accumulate_symbols;
 use place::Place;
 use repairs::bit_errors_from_crc24s;
 use search::Read;
 use search::Settings;
-use timing::Timing;
 ghost use mathlib.Core.Path.{_≡_};
 ghost use mathlib.Core.Bool.{true};
 ghost use Prim.Native.Nat.{_≤_};
 ghost use lib.ListN.{length};
 ghost use Rattle.kernels.specs.Symbols.{symbolsOf};
-ghost use Rattle.place.specs.Step.{sampleStart};
 ghost use Rattle.place.specs.All.{listed};
 ghost use Rattle.search.specs.Choice.{candidateAt, best};
 ghost use Rattle.search.specs.Kinds.{long};
 ghost use Rattle.search.specs.Seen.{windowOf};
-ghost use Rattle.search.specs.Timed.{timingAt};
 ghost use Rattle.search.specs.Answers.{readOf};
-ghost use Rattle.receiver.specs.Inner.{rowsOf, Ready};
 
 // The symbols of a window.
 pub fn symbols_of(samples: &[f32]) -> [f32; 2304]

@@ -1,13 +1,12 @@
 -- What a hash that keeps its rule has at a remainder's slot is the code of what clears it; codes and back.
 -- Assumes nothing.
 use mathlib.Core.Path.{_≡_, refl, sym, ap, _∙_, subst}
-use mathlib.Core.Bool.{Bool, true, false}
 use mathlib.Core.List.{List}
 use Prim.Native.Nat.{ℕ, _+_, _*_, _/_, _%_, _^_, _<_, _≤_}
 use native.Mathlib.Nat.{lt-irrefl, lt-of-lt-of-le}
 use native.Mathlib.Omega.{arith}
-use borrow.Author.Tests.{eq-eqb, ne-eqb, le-leb, lt-leb}
-use lib.ListN.{length, getD}
+use borrow.Author.Tests.{ne-eqb, lt-leb}
+use lib.ListN.{getD}
 use lib.Bits.{bitXor, xor-lt, bitAnd, and-mask}
 use Rattle.lists.proofs.Xor.{xor-back}
 use Rattle.annex10.specs.declared.Repairs.{Repairs}

@@ -14,7 +14,6 @@ use receiver::decode::decode;
 use search::Answer;
 use search::Settings;
 use words::float::float_of;
-ghost use Prim.Native.Nat.{_≤_};
 
 fn decoded(r: &[u8; 312], samples: &[f32; 2310]) -> Answer {
     decode(

@@ -13,7 +13,6 @@ use Rattle.place.specs.declared.Place.{Place}
 use Rattle.place.specs.declared.Slicer.the-variants.{Coherent}
 use Rattle.place.specs.Step.{sampleStart}
 use Rattle.place.specs.All.{listed}
-use Rattle.timing.specs.declared.Timing.{Timing}
 use Rattle.search.specs.declared.Settings.{Settings}
 use Rattle.search.specs.declared.Candidate.{Candidate}
 use Rattle.search.specs.declared.Read.{Read}

@@ -1,6 +1,6 @@
 -- Laws of the bits of a stream from an offset on.
 --     message-length, message-bit    n bytes, of which bit j is bit offset + j of the stream
---     message-value, message-byte    a run of its bits; each byte is below 256
+--     message-value                  a run of its bits
 --     message-head                   its first byte
 --     stream-done, opened            a call is taken exactly when the stream has 18 bytes and the offset is at most 32
 --     extracted-, crc-               the answers: refused, done
@@ -16,7 +16,7 @@ use lib.Dec.{eqb, leb}
 use lib.ListN.{length, getD, replicate}
 use Rattle.lists.specs.Bits.{bitAt, value, packed}
 use Rattle.lists.proofs.Table.{length-tabulate, getD-tabulate}
-use Rattle.lists.proofs.Bits.{bitAt-lt, bitAt-packed, value-lt, value-later}
+use Rattle.lists.proofs.Bits.{bitAt-lt, bitAt-packed, value-later}
 use Rattle.annex10.specs.Remainder.{remainder}
 use Rattle.streams.specs.declared.crc.Crc.the-variants.{Is, Refused}
 use Rattle.streams.specs.Streams.{messageAt, streamNumber}
@@ -38,12 +38,6 @@ module _ (bytes : List ℕ) (n offset : ℕ) where
   message-value j (suc m) h =
       let a : offset + (j + m) ≡ offset + j + m = omega arith in
       rw (message-value j m (omega arith), message-bit (j + m) (omega arith), a)
-
-  pub message-byte : (k : ℕ) → k < n → getD (messageAt bytes n offset) k 0 < 256
-  unfolding messageAt packed
-  message-byte k h =
-      rw (getD-tabulate n (λ (i : ℕ). value (λ (j : ℕ). bitAt bytes (offset + j)) (8 * i) 8) k 0 h)
-      (value-lt (λ (j : ℕ). bitAt bytes (offset + j)) (λ i. bitAt-lt bytes (offset + i) refl) (8 * k) 8)
 
   pub message-head : 0 < n → getD (messageAt bytes n offset) 0 0 ≡ value (bitAt bytes) offset 8
   unfolding messageAt packed

@@ -8,14 +8,13 @@
 use mathlib.Core.Path.{_≡_, refl, sym, ap, _∙_, subst}
 use borrow.Author.Count.{below-none, below-more}
 use mathlib.Core.List.{List}
-use Prim.Native.Nat.{ℕ, zero, suc, _+_, _-_, _*_, _/_, _%_, _^_, _<_, _≤_}
+use Prim.Native.Nat.{ℕ, _+_, _-_, _*_, _/_, _%_, _^_, _<_, _≤_}
 use native.Mathlib.Nat.{add-zero, ne-of-lt, lt-of-lt-of-le}
 use native.Mathlib.Numerals.{add-one}
 use native.Mathlib.Omega.{arith}
 use lib.ListN.{length, getD, take, drop, set, replicate, length-take, length-drop, length-set}
 use lib.Seq.{getD-take, getD-drop, getD-set-same, getD-set-other}
 use lib.Bits.{bitXor, bitAnd, and-mask}
-use Rattle.lists.specs.From.{tabulate}
 use Rattle.lists.specs.Bits.{bitAt, value, packed}
 use Rattle.lists.proofs.Table.{Done, tabulate-is, getD-tabulate}
 use Rattle.lists.proofs.Bits.{bitAt-lt, value-split, value-bit, value-later, byte-whole}

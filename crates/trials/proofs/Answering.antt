@@ -15,7 +15,6 @@ use lib.Dec.{eqb, leb}
 use lib.ListN.{length}
 use Rattle.annex10.specs.Remainder.{remainder}
 use Rattle.annex10.specs.Any.{clearingAny}
-use Rattle.annex10.specs.declared.Repairs.{Repairs}
 use Rattle.annex10.specs.declared.Found.{Found}
 use Rattle.annex10.specs.declared.Found.the-variants.{At, Nothing}
 use Rattle.annex10.proofs.Any.{any-found}

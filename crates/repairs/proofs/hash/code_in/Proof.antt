@@ -1,6 +1,5 @@
 -- `repairs::hash::code_in` meets its contract: a slot that its remainder owns has its code, and where it does not nothing clears.
 -- Assumes nothing.
-use denote.Ref.{now}
 use Prim.Native.Nat.{_^_, _<_}
 use native.Mathlib.Omega.{arith}
 use lib.Bits.{bitAnd, mask-lt}

@@ -1,7 +1,6 @@
 -- `repairs::hash::codes_in` meets its contract. The loop: the first i codes are stored. Assumes nothing.
 use mathlib.Core.Path.{refl, ap, _∙_}
 use Prim.Native.Nat.{ℕ, _-_, _≤_}
-use native.Mathlib.Omega.{arith}
 use lib.ListN.{length, getD}
 use denote.Ref.{now}
 use Rattle.lists.specs.From.{tabulate}

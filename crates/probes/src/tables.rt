@@ -1,12 +1,12 @@
 // The lookups of one and of two wrong bits, and of at most two for many remainders.
 use annex10::Found;
 use annex10::Repairs;
-use repairs::bit_errors_from_crc24s;
+use hash::bit_errors_from_crc24s;
 use repairs::double_bit_error_from_crc24;
 use repairs::single_bit_error_from_crc24;
 ghost use mathlib.Core.Path.{_≡_};
 ghost use Rattle.annex10.specs.Repair.{clearing};
-ghost use Rattle.repairs.specs.Codes.{codesInto};
+ghost use Rattle.hash.specs.Codes.{codesInto};
 ghost use Rattle.probes.specs.Flat.{flatRepairs, flatFound};
 
 // Zeros where nothing is found.

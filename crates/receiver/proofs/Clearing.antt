@@ -23,8 +23,8 @@ use Rattle.place.proofs.Within.{listed-gives}
 use Rattle.streams.specs.Streams.{messageAt}
 use Rattle.streams.specs.Rolling.{crcOf, crcsOf, crcsInto}
 use Rattle.streams.proofs.Parting.{message-stream}
-use Rattle.repairs.specs.Codes.{codeOf, foundOf, codesOf, codesInto}
-use Rattle.repairs.proofs.Owning.{any-back}
+use Rattle.hash.specs.Codes.{codeOf, foundOf, codesOf, codesInto}
+use Rattle.hash.proofs.Owning.{any-back}
 use Rattle.receiver.specs.Inner.{Told}
 
 -- ---- how they are made

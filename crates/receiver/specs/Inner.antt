@@ -20,7 +20,7 @@ use Rattle.kernels.specs.Powers.{powerOf, noiseOf}
 use Rattle.streams.specs.Streams.{messageAt}
 use Rattle.streams.specs.Distances.{differing}
 use Rattle.streams.specs.Rolling.{crcsOf}
-use Rattle.repairs.specs.Codes.{codesOf}
+use Rattle.hash.specs.Codes.{codesOf}
 use Rattle.cn0.specs.Estimate.{cn0Of}
 use Rattle.timing.specs.declared.Offset.{Offset}
 use Rattle.timing.specs.declared.Moves.{Moves}

@@ -2,8 +2,8 @@
 use crate::candidate::nothing;
 use crate::candidate::read_streams;
 use crate::codes::says;
+use hash::bit_errors_of;
 use place::Place;
-use repairs::bit_errors_of;
 use search::Read;
 use search::Settings;
 use trials::choice::choose;

@@ -1,11 +1,11 @@
--- `repairs::bit_errors_of` meets its contract. Assumes nothing.
+-- `hash::bit_errors_of` meets its contract. Assumes nothing.
 use native.Mathlib.Omega.{arith}
 use lib.Bits.{mask-lt, and-mask}
 use borrow.Author.Needs.{needs}
 use borrow.Author.Tests.{eq-eqb, ne-eqb, le-leb, lt-leb}
-use Rattle.repairs.specs.Codes.{repairsOf, foundOf}
-use Rattle.repairs.proofs.bit_errors_of.Statement.{statement}
-use Rattle.repairs.proofs.bit_errors_of.Tie as tie
+use Rattle.hash.specs.Codes.{repairsOf, foundOf}
+use Rattle.hash.proofs.bit_errors_of.Statement.{statement}
+use Rattle.hash.proofs.bit_errors_of.Tie as tie
 
 returns : tie.Need-returns
 unfolding foundOf

@@ -1,4 +1,4 @@
--- `repairs::hash::codes_in` meets its contract. The loop: the first i codes are stored. Assumes nothing.
+-- `hash::look::codes_in` meets its contract. The loop: the first i codes are stored. Assumes nothing.
 use mathlib.Core.Path.{refl, ap, _∙_}
 use Prim.Native.Nat.{ℕ, _-_, _≤_}
 use lib.ListN.{length, getD}
@@ -6,10 +6,10 @@ use denote.Ref.{now}
 use Rattle.lists.specs.From.{tabulate}
 use Rattle.lists.proofs.Table.{Done, done-none, done-more, done-all}
 use Rattle.annex10.specs.Any.{clearingAny}
-use Rattle.repairs.specs.Codes.{codeOf, codesOf}
+use Rattle.hash.specs.Codes.{codeOf, codesOf}
 use borrow.Author.Needs.{needs}
-use Rattle.repairs.proofs.hash.codes_in.Statement.{statement}
-use Rattle.repairs.proofs.hash.codes_in.Tie as tie
+use Rattle.hash.proofs.look.codes_in.Statement.{statement}
+use Rattle.hash.proofs.look.codes_in.Tie as tie
 
 abbrev Inv-loop : tie.InvT-loop
 Inv-loop displacements slots crcs codes₀ i₀ i-end codes i = (i ≤ length codes₀) × Done 0 (λ (k : ℕ). codeOf (clearingAny 14 (getD crcs k 0))) (length codes₀) codes i

@@ -1,11 +1,11 @@
--- `repairs::hash::code_in` meets its contract: a slot that its remainder owns has its code, and where it does not nothing clears.
+-- `hash::look::code_in` meets its contract: a slot that its remainder owns has its code, and where it does not nothing clears.
 -- Assumes nothing.
 use Prim.Native.Nat.{_^_, _<_}
 use native.Mathlib.Omega.{arith}
 use lib.Bits.{bitAnd, mask-lt}
-use Rattle.repairs.proofs.Owning.{none-high, look-lt, look-hit, look-miss}
-use Rattle.repairs.proofs.hash.code_in.Statement.{statement}
-use Rattle.repairs.proofs.hash.code_in.Tie as tie
+use Rattle.hash.proofs.Owning.{none-high, look-lt, look-hit, look-miss}
+use Rattle.hash.proofs.look.code_in.Statement.{statement}
+use Rattle.hash.proofs.look.code_in.Tie as tie
 
 returns : tie.Need-returns
 returns c = none-high (c .before .args .crc) (omega arith)

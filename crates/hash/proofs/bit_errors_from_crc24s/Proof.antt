@@ -1,4 +1,4 @@
--- `repairs::bit_errors_from_crc24s` meets its contract: the test of the two constant tables is computed here.
+-- `hash::bit_errors_from_crc24s` meets its contract: the test of the two constant tables is computed here.
 -- Assumes nothing.
 use borrow.Author.Needs.{needs}
 use borrow.Author.Tests.{eq-eqb, ne-eqb}
@@ -7,11 +7,11 @@ use mathlib.Core.Path.{ap}
 use Prim.Native.Nat.{ℕ}
 use Rattle.lists.proofs.Tree.{grow}
 use Rattle.annex10.proofs.Singles.{singles, singlesFrom}
-use Rattle.repairs.specs.Codes.{repairsOf, codesInto}
-use Rattle.repairs.proofs.Placed.{read, stands}
-use Rattle.repairs.proofs.Hashing.{fits, owned, slot-right, near, owns, single-owns, pair-owns, pairs-own, all-own, hash-rule, hash-law}
-use Rattle.repairs.proofs.bit_errors_from_crc24s.Statement.{statement}
-use Rattle.repairs.proofs.bit_errors_from_crc24s.Tie as tie
+use Rattle.hash.specs.Codes.{repairsOf, codesInto}
+use Rattle.hash.proofs.Placed.{read, stands}
+use Rattle.hash.proofs.Hashing.{fits, owned, slot-right, near, owns, single-owns, pair-owns, pairs-own, all-own, hash-rule, hash-law}
+use Rattle.hash.proofs.bit_errors_from_crc24s.Statement.{statement}
+use Rattle.hash.proofs.bit_errors_from_crc24s.Tie as tie
 
 returns : tie.Need-returns
 unfolding codesInto

@@ -14,7 +14,7 @@ use Rattle.annex10.specs.Repair.{count, Proper, Different, repaired, pattern, A
 use Rattle.annex10.specs.declared.Repairs.{Repairs}
 use Rattle.annex10.specs.declared.Repairs.the-variants.{None, One, Two}
 use Rattle.annex10.proofs.Repairing.{clears-when, changed, only-one}
-use Rattle.place.specs.Part.{chosen}
+use Rattle.parts.specs.Part.{chosen}
 use Rattle.place.specs.declared.Place.{Place}
 use Rattle.place.specs.declared.Slicer.{Slicer}
 use Rattle.place.specs.declared.Slicer.the-variants.{Coherent, Noncoherent}

@@ -9,10 +9,12 @@ pub mod Log_sweep
 pub mod Math
 pub mod Mode_s
 pub mod Outcomes
+pub mod Parts
 pub mod Place
 pub mod Probes
 pub mod Receiver
 pub mod Repairs
+pub mod Rolling
 pub mod Streams
 pub mod Timing
 pub mod Trials

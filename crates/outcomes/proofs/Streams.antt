@@ -1,7 +1,6 @@
 -- Each public contract of streams fixes its outcome. Written by tools/outcomes; the prover trusts nothing of it.
 -- Assumes nothing.
 use mathlib.Core.Path.{refl}
-use denote.Ref.{now}
 use Rattle.outcomes.specs.Outcome.{Fixed, answer}
 use Rattle.outcomes.proofs.Law.{fixes, answer-set}
 use Rattle.streams.proofs.crc.compute_crc as crc-compute-crc
@@ -9,7 +8,6 @@ use Rattle.streams.proofs.distance.compute_hamming_distance as distance-compute
 use Rattle.streams.proofs.header.df_is_valid_extended_squitter as header-df-is-valid-extended-squitter
 use Rattle.streams.proofs.message.extract_message as message-extract-message
 use Rattle.streams.proofs.message.message_from_part as message-message-from-part
-use Rattle.streams.proofs.rolling.compute_crcs as rolling-compute-crcs
 
 pub crc-compute-crc-fixed : Fixed crc-compute-crc.ended (answer _) (λ M 𝓤 H. crc-compute-crc.clauses 𝓤 H) (λ M 𝓤 H. crc-compute-crc.spec 𝓤 H)
 crc-compute-crc-fixed =
@@ -35,8 +33,3 @@ pub message-message-from-part-fixed : Fixed message-message-from-part.ended (ans
 message-message-from-part-fixed =
     fixes message-message-from-part.ended _ (answer-set message-message-from-part.ended) refl (λ κs. refl)
     (λ κs a r e. r) (λ κs a y. (y, (tt, (tt, tt)))) (λ κs a r ws. refl)
-
-pub rolling-compute-crcs-fixed : Fixed rolling-compute-crcs.ended (answer _) (λ M 𝓤 H. rolling-compute-crcs.clauses 𝓤 H) (λ M 𝓤 H. rolling-compute-crcs.spec 𝓤 H)
-rolling-compute-crcs-fixed =
-    fixes rolling-compute-crcs.ended _ (answer-set rolling-compute-crcs.ended) refl (λ κs. refl)
-    (λ κs a r e. (r, now (e .1 .0))) (λ κs a y. (y .0, (tt, (y .1, tt)))) (λ κs a r ws. refl)

@@ -1,5 +1,4 @@
 pub mod Within
 pub mod Steps
 pub mod All
-pub mod Taken
 pub mod Cases

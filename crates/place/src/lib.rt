@@ -1,6 +1,4 @@
 // Where a reading lies in a window, and who read its bits.
-pub mod parts;
-
 ghost use mathlib.Core.Path.{_≡_};
 ghost use Rattle.place.specs.Step.{within, earlierOf, laterOf};
 ghost use Rattle.place.specs.All.{listed, placeAt};

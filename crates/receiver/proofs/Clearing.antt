@@ -21,7 +21,7 @@ use Rattle.place.specs.declared.Place.{Place}
 use Rattle.place.specs.All.{listed}
 use Rattle.place.proofs.Within.{listed-gives}
 use Rattle.streams.specs.Streams.{messageAt}
-use Rattle.streams.specs.Rolling.{crcOf, crcsOf, crcsInto}
+use Rattle.rolling.specs.Rolling.{crcOf, crcsOf, crcsInto}
 use Rattle.streams.proofs.Parting.{message-stream}
 use Rattle.hash.specs.Codes.{codeOf, foundOf, codesOf, codesInto}
 use Rattle.hash.proofs.Owning.{any-back}

@@ -21,7 +21,7 @@ use Rattle.annex10.specs.declared.Found.the-variants.{Nothing}
 use Rattle.place.specs.declared.Place.{Place}
 use Rattle.place.specs.declared.Slicer.{Slicer}
 use Rattle.place.specs.declared.Slicer.the-variants.{Coherent, Noncoherent}
-use Rattle.place.specs.Part.{chosen}
+use Rattle.parts.specs.Part.{chosen}
 use Rattle.place.specs.All.{listed, placeAt}
 use Rattle.place.proofs.Within.{listed-gives}
 use Rattle.place.proofs.All.{counted, listed-at}

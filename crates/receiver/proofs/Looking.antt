@@ -16,8 +16,8 @@ use Rattle.mode_s.specs.Corrected.{corrected}
 use Rattle.place.specs.declared.Place.{Place}
 use Rattle.place.specs.declared.Slicer.{Slicer}
 use Rattle.place.specs.Step.{within}
-use Rattle.place.specs.Part.{rowRefusal, symbolsFor, samplesFor, streamsRefusal, chosen, partSize, slicerPart}
-use Rattle.place.proofs.Taken.{symbols-long, samples-long, part-done, part-long}
+use Rattle.parts.specs.Part.{rowRefusal, symbolsFor, samplesFor, streamsRefusal, chosen, partSize, slicerPart}
+use Rattle.parts.proofs.Taken.{symbols-long, samples-long, part-done, part-long}
 use Rattle.kernels.specs.declared.power.Power.{Power}
 use Rattle.kernels.specs.declared.power.Power.the-variants.{Is}
 use Rattle.kernels.specs.declared.both.Powers.{Powers}

@@ -15,7 +15,7 @@ use Rattle.annex10.specs.declared.Found.{Found}
 use Rattle.annex10.specs.Repair.{inside, repaired}
 use Rattle.annex10.proofs.Positions.{proper-inside}
 use Rattle.place.specs.declared.Place.{Place}
-use Rattle.place.specs.Part.{symbolsFor, samplesFor, chosen}
+use Rattle.parts.specs.Part.{symbolsFor, samplesFor, chosen}
 use Rattle.kernels.specs.Powers.{powerOf, noiseOf}
 use Rattle.streams.specs.Streams.{messageAt}
 use Rattle.streams.specs.Distances.{differing}

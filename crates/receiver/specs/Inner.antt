@@ -14,12 +14,12 @@ use Rattle.place.specs.declared.Place.{Place}
 use Rattle.place.specs.declared.Slicer.{Slicer}
 use Rattle.place.specs.declared.Slicer.the-variants.{Coherent, Noncoherent}
 use Rattle.place.specs.Step.{sampleStart}
-use Rattle.place.specs.Part.{symbolsFor, samplesFor, chosen}
+use Rattle.parts.specs.Part.{symbolsFor, samplesFor, chosen}
 use Rattle.kernels.specs.Symbols.{symbolsOf}
 use Rattle.kernels.specs.Powers.{powerOf, noiseOf}
 use Rattle.streams.specs.Streams.{messageAt}
 use Rattle.streams.specs.Distances.{differing}
-use Rattle.streams.specs.Rolling.{crcsOf}
+use Rattle.rolling.specs.Rolling.{crcsOf}
 use Rattle.hash.specs.Codes.{codesOf}
 use Rattle.cn0.specs.Estimate.{cn0Of}
 use Rattle.timing.specs.declared.Offset.{Offset}

@@ -1,11 +1,11 @@
 // The remainders at all places, and what is to be read where.
-use streams::rolling::compute_crcs;
+use rolling::compute_crcs;
 ghost use mathlib.Core.Path.{_≡_};
 ghost use mathlib.Core.Bool.{_||_};
 ghost use mathlib.Core.List.{_++_};
 ghost use lib.Dec.{ltb};
 ghost use lib.ListN.{length};
-ghost use Rattle.streams.specs.Rolling.{crcsOf};
+ghost use Rattle.rolling.specs.Rolling.{crcsOf};
 
 // Those of the coherent streams, then those of the noncoherent ones.
 pub fn all_crcs(coherent: &[u8], noncoherent: &[u8], crcs: &mut [u32])

@@ -1,15 +1,15 @@
 // The message of a reading.
 use annex10::Repairs;
 use mode_s::repair::correct_message_bit_errors;
+use parts::slicer_part;
 use place::Slicer;
-use place::parts::slicer_part;
 use streams::message::message_from_part;
 ghost use mathlib.Core.Path.{_≡_};
 ghost use mathlib.Core.Bool.{true};
 ghost use Prim.Native.Nat.{_≤_};
 ghost use lib.ListN.{length};
 ghost use Rattle.annex10.specs.Repair.{inside, repaired};
-ghost use Rattle.place.specs.Part.{chosen};
+ghost use Rattle.parts.specs.Part.{chosen};
 ghost use Rattle.streams.specs.Streams.{messageAt};
 
 // The named slicer's bits from a bit offset on, repaired.

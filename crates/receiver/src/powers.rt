@@ -3,15 +3,15 @@ use kernels::both::Powers;
 use kernels::both::postdecode_powers;
 use kernels::power::Power;
 use kernels::power::postdecode_power;
+use parts::samples_for_place;
+use parts::symbols_for_place;
 use place::Place;
-use place::parts::samples_for_place;
-use place::parts::symbols_for_place;
 ghost use mathlib.Core.Path.{_≡_};
 ghost use mathlib.Core.Bool.{true};
 ghost use lib.ListN.{length};
 ghost use Rattle.kernels.specs.Powers.{powerOf, noiseOf};
 ghost use Rattle.place.specs.Step.{within};
-ghost use Rattle.place.specs.Part.{symbolsFor, samplesFor};
+ghost use Rattle.parts.specs.Part.{symbolsFor, samplesFor};
 
 // In the pulses, from the row of symbols of the place's clock phase.
 pub fn prompt_power(row: &[f32], place: Place, message: [u8; 14]) -> f32

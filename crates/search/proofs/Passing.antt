@@ -17,7 +17,7 @@ use Rattle.annex10.specs.declared.Repairs.{Repairs}
 use Rattle.annex10.specs.declared.Found.{Found}
 use Rattle.annex10.specs.declared.Found.the-variants.{At, Nothing}
 use Rattle.annex10.proofs.Repairing.{Clears, found}
-use Rattle.place.specs.Part.{chosen}
+use Rattle.parts.specs.Part.{chosen}
 use Rattle.place.specs.declared.Slicer.{Slicer}
 use Rattle.place.specs.declared.Slicer.the-variants.{Coherent, Noncoherent}
 use Rattle.search.specs.declared.Reading.{Reading}

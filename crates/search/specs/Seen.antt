@@ -7,7 +7,7 @@ use lib.Ieee.{Float}
 use Rattle.place.specs.declared.Place.{Place}
 use Rattle.place.specs.declared.Slicer.{Slicer}
 use Rattle.place.specs.declared.Slicer.the-variants.{Coherent, Noncoherent}
-use Rattle.place.specs.Part.{symbolsFor, samplesFor}
+use Rattle.parts.specs.Part.{symbolsFor, samplesFor}
 use Rattle.kernels.specs.Symbols.{symbolsOf}
 use Rattle.kernels.specs.Slices.{sliced}
 use Rattle.kernels.specs.Powers.{powerOf, noiseOf}

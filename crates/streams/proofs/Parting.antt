@@ -14,7 +14,7 @@ use lib.ListN.{length, take, drop, replicate}
 use lib.Seq.{getD-take, getD-drop}
 use Rattle.lists.specs.Bits.{bitAt, value, packed}
 use Rattle.lists.proofs.Table.{tabulate-is, length-tabulate, getD-tabulate}
-use Rattle.place.specs.Part.{partSize}
+use Rattle.parts.specs.Part.{partSize}
 use Rattle.streams.specs.Streams.{messageAt, partNumber}
 use Rattle.streams.specs.Messages.{partMessage}
 

@@ -3,5 +3,3 @@ pub mod Messages
 pub mod Remainders
 pub mod Distances
 pub mod Headers
-pub mod Rolling
-pub mod Inner

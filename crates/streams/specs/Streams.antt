@@ -6,7 +6,7 @@ use Prim.Native.Nat.{ℕ, _+_}
 use lib.Dec.{eqb, leb}
 use lib.ListN.{length}
 use Rattle.lists.specs.Bits.{bitAt, packed}
-use Rattle.place.specs.Part.{partSize}
+use Rattle.parts.specs.Part.{partSize}
 
 -- n bytes, of which bit j is bit offset + j of the stream
 unfoldable pub messageAt : List ℕ → ℕ → ℕ → List ℕ

@@ -27,12 +27,3 @@ pub fn copy_bits(bytes: &[u8], offset: usize, message: &mut [u8])
         message[k] = byte_at(bytes, offset + 8 * k);
     }
 }
-
-// The 32 bits from byte n on, the first highest.
-pub fn word_at(bytes: &[u8], n: usize) -> u32
-    requires { ⌜ (n + 3 < length (now bytes)) × (length (now bytes) ≤ 144) ⌝ }
-    ensures { λ r. ⌜ r ≡ value (bitAt (now (bytes .entry))) (8 * n) 32 ⌝ }
-{
-    let high = (bytes[n] as u32) * 0x1000000 + (bytes[n + 1] as u32) * 0x10000;
-    high + (bytes[n + 2] as u32) * 0x100 + (bytes[n + 3] as u32)
-}

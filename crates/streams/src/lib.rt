@@ -5,4 +5,3 @@ pub mod distance;
 pub mod header;
 pub mod message;
 mod refusal;
-pub mod rolling;

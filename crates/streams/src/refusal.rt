@@ -1,6 +1,6 @@
 // What every call at a bit offset of a stream refuses.
+use parts::part_size;
 ghost use mathlib.Core.Path.{_≡_};
-ghost use Rattle.place.specs.Part.{partSize};
 ghost use Rattle.streams.specs.Streams.{streamNumber, partNumber};
 
 pub fn stream_number(bytes: &[u8], offset: usize) -> u32
@@ -13,13 +13,6 @@ pub fn stream_number(bytes: &[u8], offset: usize) -> u32
         return 7;
     }
     0
-}
-
-// How many bytes a part has.
-fn part_size(offset: usize) -> usize
-    ensures { λ r. ⌜ r ≡ partSize 14 offset ⌝ }
-{
-    if offset % 8 == 0 { 14 } else { 15 }
 }
 
 // What a call at a part of a stream refuses.

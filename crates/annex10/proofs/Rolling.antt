@@ -4,7 +4,7 @@
 use mathlib.Core.Path.{_≡_, refl, sym, ap, ap₂, _∙_}
 use mathlib.Core.List.{List, _∷_, _++_}
 use Prim.Native.Nat.{ℕ, zero, suc, _+_, _*_, _^_, _<_}
-use native.Mathlib.Nat.{add-zero, add-suc, suc-add, zero-add, lt-trans}
+use native.Mathlib.Nat.{add-zero, add-suc, zero-add, lt-trans}
 use native.Mathlib.Omega.{arith}
 use lib.Dec.{lit<}
 use lib.ListN.{length, replicate}
@@ -13,6 +13,7 @@ use lib.Bits.{bitXor, xor-comm, xor-zero-r, xor-lt}
 use Rattle.lists.specs.From.{from, tabulate}
 use Rattle.lists.specs.Bits.{value, packed}
 use Rattle.lists.proofs.Bits.{value-bit}
+use Rattle.lists.proofs.Members.{from-append}
 use Rattle.lists.proofs.Xor.{xor-back}
 use Rattle.annex10.specs.Remainder.{bring, divide, bitsOf, bits, remainder}
 use Rattle.annex10.specs.Division.{AreBits, xors}
@@ -20,13 +21,6 @@ use Rattle.annex10.proofs.Linear.{bring-linear, bring-small, divide-app
 use Rattle.annex10.proofs.Bytewise.{shift, shift-shift, shift-linear, shift-lt}
 
 -- ---- lists of bits that are given by their places
-
-from-append : (f : ℕ → ℕ) (k m n : ℕ) → from f k m ++ from f (k + m) n ≡ from f k (m + n)
-unfolding from
-from-append f k zero n = rw (add-zero k, zero-add n)
-from-append f k (suc m) n =
-    rw (suc-add m n, add-suc k m, ← suc-add k m)
-    (ap (λ (l : List ℕ). f k ∷ l) (from-append f (suc k) m n))
 
 from-later : (f : ℕ → ℕ) (o k n : ℕ) → from (λ (j : ℕ). f (o + j)) k n ≡ from f (o + k) n
 unfolding from
@@ -73,7 +67,7 @@ module _ (f : ℕ → ℕ) (bit : (i : ℕ) → f i < 2) where
       ap₂ (λ (x y : List ℕ). x ++ y)
       (bits-written (8 * k) 0 8 ∙ ap (λ (i : ℕ). from f i 8) (add-zero (8 * k)))
       (bits-from (suc k) n ∙ ap (λ (i : ℕ). from f i (8 * n)) e)
-      ∙ from-append f (8 * k) 8 (8 * n)
+      ∙ sym (from-append f (8 * k) 8 (8 * n))
       ∙ ap (from f (8 * k)) l
 
 -- the bits from o on, as a polynomial without the x^24
@@ -107,7 +101,7 @@ module _ (f : ℕ → ℕ) (bit : (i : ℕ) → f i < 2) where
   more o n =
       let e : suc n ≡ n + 1 = omega arith in
       ap (λ (i : ℕ). divide 0 (from f o i)) e
-      ∙ ap (divide 0) (sym (from-append f o n 1))
+      ∙ ap (divide 0) (from-append f o n 1)
       ∙ divide-append (from f o n) (from f (o + n) 1) 0
       ∙ ap (λ (x : ℕ). bring x (f (o + n))) (sym (xor-zero-r (D f o n)))
       ∙ bring-linear (D f o n) 0 0 (f (o + n)) (D-lt o n) (pow-pos 24) (lit< tt) (bit (o + n))

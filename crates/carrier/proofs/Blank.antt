@@ -1,12 +1,11 @@
 -- A blank spectrum is a peak, at any threshold that is taken.
 --     blank     every bin is 0.0: the answer is a peak at bin N/2 − M, with fraction, value and floor 0.0
 -- Assumes nothing.
-use mathlib.Core.Path.{_≡_, refl, sym, _∙_, subst}
-use mathlib.Core.Logic.{inl, inr}
+use mathlib.Core.Path.{_≡_, refl, sym, _∙_}
 use mathlib.Core.List.{List}
 use mathlib.Core.Bool.{Bool, true, false, not, cond, _&&_, _||_, true≢false}
 use Prim.Native.Nat.{ℕ, zero, suc, _+_, _-_, _*_, _/_, _<_, _≤_}
-use native.Mathlib.Nat.{mul-zero, zero-mul, mul-pos, eq-zero-or-pos, lt-irrefl}
+use native.Mathlib.Nat.{mul-zero, zero-mul, mul-pos}
 use native.Mathlib.Omega.{arith}
 use lib.Dec.{T, leb, ltb, lit<}
 use lib.IntN.{pos}
@@ -18,6 +17,7 @@ use lib.Ieee.Exact.{HasValue, round-exact}
 use lib.Ieee.Fits.{down-pos}
 use Rattle.math.specs.Complex.{zeroF}
 use Rattle.math.specs.Parabola.{parabola}
+use Rattle.floats.proofs.Order.{zero-of}
 use Rattle.carrier.specs.declared.metric.Carrier.the-variants.{Peak}
 use lib.Ieee.Scale.{finite}
 use Rattle.carrier.specs.Refusals.{binsTaken, thresholdTaken, carrierNumber}
@@ -28,9 +28,6 @@ use Rattle.carrier.proofs.Taken.{carrier-taken}
 use Rattle.carrier.proofs.Answers.{measured-peak, carrier-done}
 
 -- ---- a finite float times 0.0 is no greater than 0.0
-
-zero-of : (a b : ℕ) → 0 < b → a * b ≡ 0 → a ≡ 0
-zero-of a b B e = elim (eq-zero-or-pos a) [ inl z ↦ z | inr p ↦ absurd (lt-irrefl 0 (subst (λ (n : ℕ). 0 < n) e (mul-pos p B))) ]
 
 level-zero : (t : Bool) (a b : ℕ) → a ≡ 0 → b ≡ 0 → T (below t a false b || level t a false b)
 level-zero true a b e f = rw (e, f) tt

@@ -23,7 +23,8 @@ use Rattle.carrier.specs.declared.search.Search.the-variants.{Found}
 use Rattle.carrier.specs.Refusals.{searchNumber}
 use Rattle.carrier.specs.Peaks.{binAt, better, peakFrom, peakOf, searchAnswer, searchOf}
 use Rattle.carrier.proofs.Taken.{search-taken}
-use Rattle.carrier.proofs.Order.{lt-irreflexive, lt-transitive, lt-no-nan-r, lt-le, lt-or-le}
+use Rattle.floats.proofs.Order.{lt-irreflexive, lt-transitive, lt-no-nan-r}
+use Rattle.floats.proofs.Compare.{lt-le, lt-or-le}
 
 -- ---- what is said
 

@@ -11,6 +11,7 @@ use borrow.Author.Tests.{eq-eqb}
 use lib.IntN.{ℤ}
 use lib.ListN.{length, getD}
 use lib.Ieee.{Float, nan, inf, fin, binary32, mul, lt, eq, le}
+use Rattle.floats.proofs.Nan.{nan-lt, nan-le}
 use Rattle.carrier.specs.declared.metric.Carrier.the-variants.{Weak}
 use Rattle.carrier.specs.declared.maximum.LocalMaximum.the-variants.{Yes}
 use Rattle.carrier.specs.Refusals.{carrierNumber}
@@ -46,14 +47,6 @@ module _ (s : List Float) (m w : ℕ) (threshold : Float) (done : carrierNumber 
       → carrierOf s m w threshold ≡ Weak (peakOf s m .value) (inf i)
   infinite-floor sign i e t f = weak (sym f) (rw t (zero-product sign i e))
 
-le-nan : (v : Float) → le nan v ≡ false
-unfolding le lt eq
-le-nan v = refl
-
-lt-nan : (v : Float) → lt nan v ≡ false
-unfolding lt
-lt-nan v = refl
-
 pub nan-third : (v : List Float) → length v ≡ 5 → getD v 2 nan ≡ nan → maximumOf v ≡ Yes
 unfolding maximumOf earlierAsGreat laterGreater
-nan-third v l e = simp (eq-eqb _ _ l, e, le-nan, lt-nan)
+nan-third v l e = simp (eq-eqb _ _ l, e, nan-le, nan-lt)

@@ -1,7 +1,6 @@
 pub mod Taken
 pub mod Walking
 pub mod Answers
-pub mod Order
 pub mod Greatest
 pub mod Judged
 pub mod Blank

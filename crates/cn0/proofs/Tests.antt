@@ -11,7 +11,7 @@ use lib.Ieee.Fits.{up-pos, and-i, and-l, eq→eqb}
 use lib.Ieee.Positive.{positive}
 use borrow.Author.Tests.{ltb-true, lt-ltb, not-true, not-false}
 use lib.Ieee.{sub, div, le, isNan}
-use Rattle.floats.proofs.Compare.{le-not-lt}
+use Rattle.floats.proofs.Compare.{or-r, le-not-lt}
 use Rattle.cn0.specs.Estimate.{two, twoMillion, signalOf, cn0Of}
 use Rattle.cn0.specs.Logarithm.{logSteps, scale, tenLog10}
 
@@ -31,11 +31,7 @@ below-some m e = subst (λ (k : ℕ). k < suc m * up e * 1) (sym (zero-mul (down
 is-zero : (s : Bool) (e : ℤ) → T (eq (fin s 0 e) zero32)
 unfolding eq
 is-zero s e =
-    and-i (eqb (0 * up e * 1) (0 * down e)) (Bool·beq s false || eqb (0 * up e * 1) 0) (eq→eqb (no-part e ∙ sym (zero-mul (down e)))) (right (Bool·beq s false) (eqb (0 * up e * 1) 0) (eq→eqb (no-part e)))
-  where
-    right : (a b : Bool) → T b → T (a || b)
-    right true b t = tt
-    right false b t = t
+    and-i (eqb (0 * up e * 1) (0 * down e)) (Bool·beq s false || eqb (0 * up e * 1) 0) (eq→eqb (no-part e ∙ sym (zero-mul (down e)))) (or-r (Bool·beq s false) (eqb (0 * up e * 1) 0) (eq→eqb (no-part e)))
 
 no-zero : (s : Bool) (m : ℕ) (e : ℤ) → T (eq (fin s (suc m) e) zero32) → ⊥
 unfolding eq
@@ -45,9 +41,6 @@ no-zero s m e t =
 
 yes : (b : Bool) → b ≡ true → T b
 yes b e = subst T (sym e) tt
-
-clash : (b : Bool) → T b → b ≡ false → ⊥
-clash b t e = subst T e t
 
 -- ---- the four ways
 pub at-log : (x : Float) → lt zero32 x ≡ true → eq x (inf false) ≡ false → T (positive x)
@@ -86,7 +79,7 @@ unfolding tenLog10
 at-rest nan h k = refl
 at-rest (inf true) h k = refl
 at-rest (inf false) h k = unfold lt in absurd (true≢false h)
-at-rest (fin s zero e) h k = absurd (clash (eq (fin s 0 e) zero32) (is-zero s e) k)
+at-rest (fin s zero e) h k = absurd (subst T k (is-zero s e))
 at-rest (fin true (suc m) e) h k = refl
 at-rest (fin false (suc m) e) h k = unfold lt in absurd (true≢false (sym (lt-ltb (0 * down e) (suc m * up e * 1) (below-some m e)) ∙ h))
 

@@ -2,22 +2,17 @@
 -- Assumes nothing.
 use mathlib.Core.Path.{_≡_, sym, ap, _∙_, subst}
 use mathlib.Core.Bool.{Bool, true, false, not}
-use Prim.Native.Nat.{ℕ, zero, suc, _+_, _-_, _*_, _^_, _≤_, _<_}
-use native.Mathlib.Nat.{lt-irrefl}
+use Prim.Native.Nat.{ℕ, suc, _+_, _-_, _*_, _^_, _≤_, _<_}
 use native.Mathlib.Omega.{arith}
 use lib.Dec.{T, ltb, ltb→lt, nltb→le, lt→ltb, le→leb}
-use lib.IntN.{ℤ, pos, negsuc, subℕ, negℤ, _+ℤ_, _-ℤ_, _*ℤ_}
+use lib.IntN.{ℤ, pos, subℕ, _+ℤ_, _-ℤ_, _*ℤ_}
 use lib.Ieee.{Float, binary32, inFloat}
 use mir.Syntax.{w32}
 use mir.Val.{SFits, toZ, ofZ}
 use mir.ValLaws.{toZ-pos, toZ-ofZ}
 use Rattle.cn0.specs.Logarithm.{floorLog, digits, logSteps}
 use Rattle.cn0.specs.Apart.{Placed}
-use Rattle.floats.proofs.Integers.{sub-ge, sub-lt, sub-same}
-
-neg-pos : (w : ℕ) → 0 < w → negℤ (pos w) ≡ negsuc (w - 1)
-neg-pos zero h = absurd (lt-irrefl 0 h)
-neg-pos (suc n) h = ap negsuc (omega arith)
+use Rattle.floats.proofs.Integers.{sub-ge, sub-lt, sub-same, neg-pos}
 
 scaled : (p d : ℕ) → subℕ (65536 * p + d) 9830400 ≡ pos 65536 *ℤ subℕ p 150 +ℤ pos d
 scaled p d = go (ltb p 150) (ltb→lt p 150) (nltb→le p 150)

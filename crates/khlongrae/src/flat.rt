@@ -2,19 +2,9 @@
 use annex10::Repairs;
 use place::Slicer;
 use search::Answer;
+use trials::choice::repairs_of;
 ghost use mathlib.Core.Path.{_≡_};
-ghost use Rattle.annex10.specs.Repair.{count};
 ghost use Rattle.khlongrae.specs.Flat.{firstOf, secondOf, slicerCode, wordsOf, numbersOf};
-
-fn count_of(repairs: Repairs) -> u64
-    ensures { λ r. ⌜ r ≡ count repairs ⌝ }
-{
-    match repairs {
-        Repairs::None => 0,
-        Repairs::One(_) => 1,
-        Repairs::Two(_, _) => 2,
-    }
-}
 
 fn first_of(repairs: Repairs) -> u64
     ensures { λ r. ⌜ r ≡ firstOf repairs ⌝ }
@@ -57,7 +47,7 @@ pub fn words_of(a: Answer) -> [u64; 8]
         place.bit as u64,
         place.phase as u64,
         place.symbol as u64,
-        count_of(repairs),
+        repairs_of(repairs) as u64,
         first_of(repairs),
         second_of(repairs),
         code_of(slicer),

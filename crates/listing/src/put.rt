@@ -1,9 +1,10 @@
 // A text grows at its end. A full one stays as it is, so that nothing here can fail; no line is that long.
 use crate::Text;
+use mode_s::avr::high_digit;
+use mode_s::avr::low_digit;
 ghost use mathlib.Core.Path.{_≡_};
 ghost use mathlib.Core.List.{[], _∷_};
-ghost use Prim.Native.Nat.{_<_};
-ghost use Rattle.mode_s.specs.Avr.{hexDigit, hexText};
+ghost use Rattle.mode_s.specs.Avr.{hexText};
 ghost use Rattle.listing.specs.Fields.{decimal, hexWord};
 ghost use Rattle.listing.specs.Lines.{textOf};
 ghost use Rattle.listing.specs.Inner.{putOf, puts};
@@ -44,19 +45,11 @@ pub fn put_all(t: Text, bytes: &[u8]) -> Text
     text
 }
 
-// A number below 16 as a capital hex digit.
-fn digit(n: u8) -> u8
-    requires { ⌜ n < 16 ⌝ }
-    ensures { λ r. ⌜ r ≡ hexDigit n ⌝ }
-{
-    if n < 10 { 48 + n } else { 55 + n }
-}
-
 // A byte as two hex digits.
 pub fn put_hex(t: Text, b: u8) -> Text
     ensures { λ r. ⌜ r ≡ puts t (hexText (b ∷ [])) ⌝ }
 {
-    put(put(t, digit(b / 16)), digit(b % 16))
+    put(put(t, high_digit(b)), low_digit(b))
 }
 
 // Eight hex digits.

@@ -1,6 +1,6 @@
 // A message as an AVR line: `*`, its capital hex digits, `;`.
 ghost use mathlib.Core.Path.{_≡_};
-ghost use Prim.Native.Nat.{_+_, _*_, _<_};
+ghost use Prim.Native.Nat.{_+_, _*_, _/_, _%_, _<_};
 ghost use lib.ListN.{length};
 ghost use Rattle.mode_s.specs.Avr.{hexDigit, messageLength, avrLine};
 ghost use Rattle.mode_s.specs.Inner.{avrByte};
@@ -11,6 +11,19 @@ fn digit(n: u8) -> u8
     ensures { λ r. ⌜ r ≡ hexDigit n ⌝ }
 {
     if n < 10 { 48 + n } else { 55 + n }
+}
+
+// The two digits of a byte.
+pub fn high_digit(b: u8) -> u8
+    ensures { λ r. ⌜ r ≡ hexDigit (b / 16) ⌝ }
+{
+    digit(b / 16)
+}
+
+pub fn low_digit(b: u8) -> u8
+    ensures { λ r. ⌜ r ≡ hexDigit (b % 16) ⌝ }
+{
+    digit(b % 16)
 }
 
 // Byte i of the line.
@@ -26,9 +39,9 @@ fn avr_byte(message: &[u8], i: usize) -> u8
         return b';';
     }
     if i % 2 == 1 {
-        digit(message[k] / 16)
+        high_digit(message[k])
     } else {
-        digit(message[k] % 16)
+        low_digit(message[k])
     }
 }
 

@@ -4,6 +4,8 @@ use mathlib.Core.Path.{refl}
 use denote.Ref.{now}
 use Rattle.outcomes.specs.Outcome.{Fixed, answer}
 use Rattle.outcomes.proofs.Law.{fixes, answer-set}
+use Rattle.mode_s.proofs.avr.high_digit as avr-high-digit
+use Rattle.mode_s.proofs.avr.low_digit as avr-low-digit
 use Rattle.mode_s.proofs.avr.format_avr as avr-format-avr
 use Rattle.mode_s.proofs.crc.crc24_step as crc-crc24-step
 use Rattle.mode_s.proofs.crc.crc24 as crc-crc24
@@ -12,6 +14,16 @@ use Rattle.mode_s.proofs.message.ModeSMessage.short as message-ModeSMessage-sho
 use Rattle.mode_s.proofs.message.ModeSMessage.long as message-ModeSMessage-long
 use Rattle.mode_s.proofs.message.ModeSMessage.num_bits as message-ModeSMessage-num-bits
 use Rattle.mode_s.proofs.repair.correct_message_bit_errors as repair-correct-message-bit-errors
+
+pub avr-high-digit-fixed : Fixed avr-high-digit.ended (answer _) (λ M 𝓤 H. avr-high-digit.clauses 𝓤 H) (λ M 𝓤 H. avr-high-digit.spec 𝓤 H)
+avr-high-digit-fixed =
+    fixes avr-high-digit.ended _ (answer-set avr-high-digit.ended) refl (λ κs. refl)
+    (λ κs a r e. r) (λ κs a y. (y, (tt, tt))) (λ κs a r ws. refl)
+
+pub avr-low-digit-fixed : Fixed avr-low-digit.ended (answer _) (λ M 𝓤 H. avr-low-digit.clauses 𝓤 H) (λ M 𝓤 H. avr-low-digit.spec 𝓤 H)
+avr-low-digit-fixed =
+    fixes avr-low-digit.ended _ (answer-set avr-low-digit.ended) refl (λ κs. refl)
+    (λ κs a r e. r) (λ κs a y. (y, (tt, tt))) (λ κs a r ws. refl)
 
 pub avr-format-avr-fixed : Fixed avr-format-avr.ended (answer _) (λ M 𝓤 H. avr-format-avr.clauses 𝓤 H) (λ M 𝓤 H. avr-format-avr.spec 𝓤 H)
 avr-format-avr-fixed =

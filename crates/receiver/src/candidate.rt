@@ -27,15 +27,15 @@ ghost use Rattle.streams.specs.Streams.{messageAt};
 ghost use Rattle.streams.specs.Distances.{differing};
 ghost use Rattle.search.specs.Choice.{candidate, dropped, candidateAt};
 ghost use Rattle.search.specs.Kinds.{long};
-ghost use Rattle.search.specs.Answers.{readOf};
+ghost use Rattle.search.specs.Answers.{noCandidate, readOf};
 ghost use Rattle.receiver.specs.Inner.{Streams, Told, seenAt};
 
-// Nothing is held.
-pub fn nothing() -> Read
-    ensures { λ r. ⌜ r ≡ readOf none ⌝ }
+// No reading, and the number that says why.
+pub fn unread(number: u32) -> Read
+    ensures { λ r. ⌜ r ≡ record { number = number; candidate = noCandidate } ⌝ }
 {
     Read {
-        number: 1,
+        number,
         candidate: Candidate {
             place: Place {
                 bit: 0,
@@ -50,6 +50,13 @@ pub fn nothing() -> Read
             cn0: 0.0,
         },
     }
+}
+
+// Nothing is held.
+pub fn nothing() -> Read
+    ensures { λ r. ⌜ r ≡ readOf none ⌝ }
+{
+    unread(1)
 }
 
 fn distance_at(coherent: &[u8], noncoherent: &[u8], bit: usize) -> u32

@@ -1,4 +1,5 @@
 // The decode, and its parts for those who ask how it came about.
+use crate::candidate::unread;
 use crate::refusals::best_number;
 use crate::refusals::decode_number;
 use crate::refusals::read_number;
@@ -11,7 +12,6 @@ use annex10::Repairs;
 use place::Place;
 use place::Slicer;
 use search::Answer;
-use search::Candidate;
 use search::Read;
 use search::Settings;
 use search::Timed;
@@ -23,7 +23,7 @@ ghost use lib.ListN.{length};
 ghost use Rattle.place.specs.Step.{sampleStart};
 ghost use Rattle.place.specs.All.{listed};
 ghost use Rattle.search.specs.Timed.{indexOf};
-ghost use Rattle.search.specs.Answers.{noCandidate, refusedAnswer, readAt, bestOf, timedAt, decodeOf};
+ghost use Rattle.search.specs.Answers.{refusedAnswer, readAt, bestOf, timedAt, decodeOf};
 ghost use Rattle.receiver.specs.Inner.{timedIn, movesCount};
 
 // Zeros, with a number.
@@ -43,27 +43,6 @@ fn refused(number: u32) -> Answer
         cn0: 0.0,
         index: 0,
         fraction: 0.0,
-    }
-}
-
-fn unread(number: u32) -> Read
-    ensures { λ r. ⌜ r ≡ record { number = number; candidate = noCandidate } ⌝ }
-{
-    Read {
-        number,
-        candidate: Candidate {
-            place: Place {
-                bit: 0,
-                phase: 0,
-                symbol: 0,
-            },
-            trial: 0,
-            slicer: Slicer::Coherent,
-            repairs: Repairs::None,
-            message: [0u8; 14],
-            prompt: 0.0,
-            cn0: 0.0,
-        },
     }
 }
 

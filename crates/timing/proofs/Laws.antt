@@ -12,7 +12,7 @@ use mathlib.Core.Path.{_≡_, refl, sym, ap, _∙_, subst}
 use mathlib.Core.Logic.{inl, inr}
 use mathlib.Core.Bool.{Bool, true, false, not, cond, false≢true}
 use Prim.Native.Nat.{ℕ, zero, suc, _+_, _-_, _*_, _<_, _≤_}
-use native.Mathlib.Nat.{lt-irrefl, zero-mul}
+use native.Mathlib.Nat.{zero-mul}
 use native.Mathlib.Omega.{arith}
 use lib.Dec.{T, lit≤}
 use lib.IntN.{ℤ, pos, negsuc, natAbs, negℤ, _+ℤ_, _*ℤ_}
@@ -22,7 +22,7 @@ use lib.Ieee.Positive.{den}
 use lib.Ieee.Scale.{finite}
 use Rattle.floats.proofs.Compare.{le-not-lt}
 use Rattle.floats.proofs.Nan.{le-number-r}
-use Rattle.floats.proofs.Integers.{sub-ge, sub-lt}
+use Rattle.floats.proofs.Integers.{sub-ge, sub-lt, neg-pos}
 use Rattle.timing.specs.declared.Offset.{Offset}
 use Rattle.timing.specs.declared.Moves.{Moves}
 use Rattle.timing.specs.declared.Moves.the-variants.{Back, On}
@@ -31,7 +31,7 @@ use Rattle.timing.proofs.Exactly.{Up, Down, up-exact, down-exact}
 use Rattle.timing.proofs.Turning.{Rests, Span, InRange, rests-nan, span-up, span-down, move-up, move-down, move-rest, rests-after-two, rest-rest, moved-rest, which, below-half, above-half, minus-no, plus-no}
 use Rattle.timing.proofs.Keeping.{spans-up, spans-down}
 use Rattle.timing.proofs.Reach.{fraction-reaches}
-use Rattle.timing.proofs.Reading.{range-gives, range-is}
+use Rattle.timing.proofs.Reading.{range-gives, range-is, half-number}
 
 pub reaches : (parabola : Float) (offset : Offset) → inRange (fractionOf parabola offset) ≡ true
 reaches p o = range-is (fractionOf p o) (fraction-reaches p o)
@@ -53,10 +53,6 @@ span-move f s = elim (which f) [
     | inr r ↦ subst Span (sym (move-rest f r)) s
   ]
 ]
-
-half-number : (s : Bool) (b : ℕ) → T (not (isNan (halves s b)))
-unfolding isNan
-half-number s b = tt
 
 rests-between : (f : Float) → Span f → Rests f → (le (halves true 1) f ≡ true) × (lt f (halves false 1) ≡ true)
 rests-between f s r =
@@ -150,10 +146,6 @@ value-finite : (y : Float) (s : Bool) (n c : ℕ) → HasValue y s n c → T (fi
 value-finite nan s n c h = absurd h
 value-finite (inf t) s n c h = absurd h
 value-finite (fin t m e) s n c h = tt
-
-neg-pos : (w : ℕ) → 0 < w → negℤ (pos w) ≡ negsuc (w - 1)
-neg-pos zero h = absurd (lt-irrefl 0 h)
-neg-pos (suc n) h = ap negsuc (omega arith)
 
 -- c - a, and its opposite
 less-a : (a c : ℕ) → a ≤ c → negℤ (pos a) +ℤ pos c ≡ pos (c - a)

@@ -50,7 +50,7 @@ range-is f (inr s) = rw (number-range f (le-number-r (halves true 5) f (s .lo)),
 
 -- ---- the tests of the code: below -5/2, above 3/2
 
-half-number : (s : Bool) (b : ℕ) → T (not (isNan (halves s b)))
+pub half-number : (s : Bool) (b : ℕ) → T (not (isNan (halves s b)))
 unfolding isNan
 half-number s b = tt
 

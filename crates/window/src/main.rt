@@ -4,6 +4,7 @@ use annex10::Repairs;
 use kernels::slicers::demodulate;
 use kernels::symbols::accumulate_symbols;
 use libc::STDOUT_FILENO;
+use mode_s::avr::format_avr;
 use place::Slicer;
 use receiver::decode::decode;
 use search::Answer;
@@ -27,44 +28,17 @@ fn pulse(samples: &mut [f32; 2310], start: usize)
     }
 }
 
-// From sample 128 on, eight samples a bit: a pulse in the first half for 1, in the second for 0.
-fn send(message: &[u8; 14], samples: &mut [f32; 2310]) {
-    for j in 0..112 {
-        let bit = (message[j / 8] >> (7 - j % 8)) & 1;
-        if bit == 1 {
-            pulse(samples, 128 + 8 * j);
-        } else {
-            pulse(samples, 128 + 8 * j + 4);
-        }
-    }
-}
-
-// The four low bits of a number, as a digit.
-fn print_digit(n: u8) {
-    let d = n % 16;
-    if d < 10 {
-        io::write_all(STDOUT_FILENO, &[b'0' + d]);
-    } else {
-        io::write_all(STDOUT_FILENO, &[b'A' + (d - 10)]);
-    }
-}
-
-fn print_byte(b: u8) {
-    print_digit(b >> 4);
-    print_digit(b);
-}
-
-fn print_bytes(bytes: [u8; 14]) {
-    for k in 0..14 {
-        print_byte(bytes[k]);
-    }
+fn print_message(bytes: [u8; 14]) {
+    let mut line = [0u8; 30];
+    format_avr(&bytes, &mut line);
+    io::write_all(STDOUT_FILENO, &line);
 }
 
 // The message at a bit offset, and its remainder.
 fn show_stream(stream: &[u8], bit: usize) {
     let message = extract_message(stream, bit);
     let bytes = message.bytes;
-    print_bytes(bytes);
+    print_message(bytes);
     match compute_crc(stream, bit) {
         Crc::Is(r) => {
             io::write_all(STDOUT_FILENO, b" remainder ");
@@ -126,7 +100,8 @@ fn turned_pulse(samples: &mut [f32; 2310], start: usize)
     }
 }
 
-// Where the slicers are to differ the other half has the greater power.
+// From sample 128 on, eight samples a bit: a pulse in the first half for 1, in the second for 0. Where the slicers are to differ the
+// other half has the greater power.
 fn send_both(coherent: &[u8; 14], noncoherent: &[u8; 14], samples: &mut [f32; 2310]) {
     for j in 0..112 {
         let c = bit_of(coherent, j);
@@ -201,7 +176,7 @@ fn print_answer(a: Answer) {
     print_word(place.symbol as u64);
     io::write_all(STDOUT_FILENO, b" ");
     let bytes = a.message;
-    print_bytes(bytes);
+    print_message(bytes);
     let repairs = a.repairs;
     print_repairs(repairs);
     let slicer = a.slicer;
@@ -227,7 +202,7 @@ fn show_answer(samples: &[f32; 2310]) {
 
 fn main() {
     let mut samples = [0.0f32; 2310];
-    send(&SENT, &mut samples);
+    send_both(&SENT, &SENT, &mut samples);
     read(&samples);
     show_answer(&samples);
     let mut other = [0.0f32; 2310];

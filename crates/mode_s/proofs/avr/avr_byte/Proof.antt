@@ -1,6 +1,5 @@
 -- `mode_s::avr::avr_byte` meets its contract: the star, the semicolon, or the digit of half a byte.
 -- Assumes nothing.
-use Prim.Native.Nat.{_-_, _/_}
 use denote.Ref.{now}
 use mathlib.Core.Path.{_∙_}
 use native.Mathlib.Omega.{arith}
@@ -18,27 +17,27 @@ sub-k c = search needs
 returns-2 : tie.Need-returns-2
 returns-2 c = let s = c .before .before .before in avr-end (now (s .args .message)) (s .args .i) (c .before .if1 .left) (s .pre) (c .if2 .taken)
 
-shared-slice-read-digit : tie.Need-shared-slice-read-digit
-shared-slice-read-digit c = search needs
+shared-slice-read-high-digit : tie.Need-shared-slice-read-high-digit
+shared-slice-read-high-digit c = search needs
 
-digit-requires : tie.Need-digit-requires
-digit-requires c κs = omega (arith, c .shared-slice-known2 .given ((c .before .before .before .before .before .args .i - 1) / 2))
+high-digit-requires : tie.Need-high-digit-requires
+high-digit-requires c κs = search needs
 
-shared-slice-read-digit-2 : tie.Need-shared-slice-read-digit-2
-shared-slice-read-digit-2 c = search needs
+shared-slice-read-low-digit : tie.Need-shared-slice-read-low-digit
+shared-slice-read-low-digit c = search needs
 
-digit-requires-2 : tie.Need-digit-requires-2
-digit-requires-2 c κs = search needs
+low-digit-requires : tie.Need-low-digit-requires
+low-digit-requires c κs = search needs
 
 returns-3 : tie.Need-returns-3
 returns-3 c =
     let s = c .before .before .before .before .before .before in
-    c .digit .ensures ∙ avr-high (now (s .args .message)) (s .args .i) (c .before .before .before .before .if1 .left) (omega arith) (c .before .before .if3 .taken)
+    c .high-digit .ensures ∙ avr-high (now (s .args .message)) (s .args .i) (c .before .before .before .before .if1 .left) (omega arith) (c .before .before .if3 .taken)
 
 returns-4 : tie.Need-returns-4
 returns-4 c =
     let s = c .before .before .before .before .before .before in
-    c .digit2 .ensures ∙ avr-low (now (s .args .message)) (s .args .i) (c .before .before .before .before .if1 .left) (omega arith) (c .before .before .if3 .left)
+    c .low-digit .ensures ∙ avr-low (now (s .args .message)) (s .args .i) (c .before .before .before .before .if1 .left) (omega arith) (c .before .before .if3 .left)
 
 pub avr-byte-spec : {M : Type 1} → statement M
 avr-byte-spec =
@@ -47,9 +46,9 @@ avr-byte-spec =
     returns
     sub-k
     returns-2
-    shared-slice-read-digit
-    digit-requires
-    shared-slice-read-digit-2
-    digit-requires-2
+    shared-slice-read-high-digit
+    high-digit-requires
+    shared-slice-read-low-digit
+    low-digit-requires
     returns-3
     returns-4)

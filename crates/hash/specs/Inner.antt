@@ -1,15 +1,27 @@
+-- What private functions rest on: no public contract cites it.
 -- The rule of the hash: the low 11 bits of a remainder choose a displacement, which moves the upper 13 to a slot; the entry there has
 -- the low bits of its own remainder in front of the 16 bits of a code.
 -- Assumes nothing.
 use mathlib.Core.Path.{_≡_}
+use mathlib.Core.Bool.{cond}
 use mathlib.Core.List.{List}
 use Prim.Native.Nat.{ℕ, _+_, _*_, _/_, _%_, _<_}
 use lib.Bits.{bitXor}
+use lib.Dec.{eqb, leb}
 use lib.ListN.{getD, length}
 use Rattle.annex10.specs.declared.Repairs.{Repairs}
-use Rattle.annex10.specs.declared.Found.the-variants.{At}
+use Rattle.annex10.specs.declared.Repairs.the-variants.{None, One, Two}
+use Rattle.annex10.specs.declared.Found.{Found}
+use Rattle.annex10.specs.declared.Found.the-variants.{At, Nothing}
 use Rattle.annex10.specs.Repair.{Proper, pattern}
-use Rattle.hash.specs.Codes.{codeOf, repairsOf}
+use Rattle.hash.specs.Codes.{absent, codeOf}
+
+-- what a code says: its positions, and what clears
+unfoldable pub repairsOf : ℕ → Repairs
+repairsOf c = cond (eqb (c / 256) absent) None (cond (eqb (c % 256) absent) (One (c / 256)) (Two (c / 256) (c % 256)))
+
+unfoldable pub foundOf : ℕ → Found
+foundOf c = cond (leb 65536 c) Nothing (At (repairsOf c))
 
 abbrev pub ownerAt : List ℕ → ℕ → ℕ
 ownerAt slots z = getD slots z 0 / 65536

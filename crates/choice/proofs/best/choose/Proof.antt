@@ -1,10 +1,10 @@
--- `trials::choice::choose` meets its contract: by the two numbers, and where both are 0 by what displaces.
+-- `choice::best::choose` meets its contract: by the two numbers, and where both are 0 by what displaces.
 -- Assumes nothing.
 use mathlib.Core.Path.{sym, _∙_}
-use Rattle.trials.proofs.Choosing.{no-newcomer, no-holder, both-there}
+use Rattle.choice.proofs.Choosing.{no-newcomer, no-holder, both-there}
 use borrow.Author.Needs.{needs}
-use Rattle.trials.proofs.choice.choose.Statement.{statement}
-use Rattle.trials.proofs.choice.choose.Tie as tie
+use Rattle.choice.proofs.best.choose.Statement.{statement}
+use Rattle.choice.proofs.best.choose.Tie as tie
 
 returns : tie.Need-returns
 returns c = no-newcomer _ _ (c .if1 .taken)

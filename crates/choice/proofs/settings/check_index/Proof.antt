@@ -1,9 +1,9 @@
--- `receiver::settings::check_index` meets its contract.
+-- `choice::settings::check_index` meets its contract.
 -- Assumes nothing.
 use borrow.Author.Tests.{le-leb, lt-leb}
 use Rattle.search.specs.Answers.{indexNumber}
-use Rattle.receiver.proofs.settings.check_index.Statement.{statement}
-use Rattle.receiver.proofs.settings.check_index.Tie as tie
+use Rattle.choice.proofs.settings.check_index.Statement.{statement}
+use Rattle.choice.proofs.settings.check_index.Tie as tie
 
 returns : tie.Need-returns
 unfolding indexNumber

@@ -1,9 +1,9 @@
--- `trials::filter::filter_out_decode_candidate` meets its contract: one law for each way out.
+-- `choice::filter::is_dropped` meets its contract: one law for each way out.
 -- Assumes nothing.
-use Rattle.trials.proofs.Filtering.{not-two, weak, coherent, doubtful, strong}
+use Rattle.choice.proofs.Filtering.{not-two, weak, coherent, doubtful, strong}
 use borrow.Author.Needs.{needs}
-use Rattle.trials.proofs.filter.filter_out_decode_candidate.Statement.{statement}
-use Rattle.trials.proofs.filter.filter_out_decode_candidate.Tie as tie
+use Rattle.choice.proofs.filter.is_dropped.Statement.{statement}
+use Rattle.choice.proofs.filter.is_dropped.Tie as tie
 
 repairs-of-requires : tie.Need-repairs-of-requires
 repairs-of-requires c κs = search needs
@@ -33,8 +33,8 @@ returns-5 c =
     let two = c .before .before .before .before .before .before .before .before in
     strong _ _ _ (two .before .repairs-of .ensures) (two .if1 .left) (c .before .before .before .before .before .if2 .left) (c .before .before .before .enum-told .given .1) (c .if3 .left)
 
-pub filter-out-decode-candidate-spec : {M : Type 1} → statement M
-filter-out-decode-candidate-spec =
+pub is-dropped-spec : {M : Type 1} → statement M
+is-dropped-spec =
     tie.close
     (tie.spec
     repairs-of-requires

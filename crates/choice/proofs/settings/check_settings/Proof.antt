@@ -1,11 +1,11 @@
--- `receiver::settings::check_settings` meets its contract.
+-- `choice::settings::check_settings` meets its contract.
 -- Assumes nothing.
 use borrow.Author.Tests.{le-leb, lt-leb, not-true, not-false}
 use mathlib.Core.Path.{sym, _∙_}
 use Rattle.search.specs.Answers.{settingsNumber}
 use borrow.Author.Needs.{needs}
-use Rattle.receiver.proofs.settings.check_settings.Statement.{statement}
-use Rattle.receiver.proofs.settings.check_settings.Tie as tie
+use Rattle.choice.proofs.settings.check_settings.Statement.{statement}
+use Rattle.choice.proofs.settings.check_settings.Tie as tie
 
 returns : tie.Need-returns
 unfolding settingsNumber

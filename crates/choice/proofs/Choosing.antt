@@ -20,7 +20,7 @@ use Rattle.search.specs.declared.Read.{Read}
 use Rattle.search.specs.Choice.{beats, better, scan}
 use Rattle.search.specs.Answers.{readOf}
 use Rattle.search.proofs.Scanning.{scan-more}
-use Rattle.trials.specs.Chosen.{chosenRead}
+use Rattle.choice.specs.Chosen.{chosenRead}
 
 module _ (new held : Candidate) {n h : ℕ} (p : n ≡ count (new .repairs)) (q : h ≡ count (held .repairs)) where
   pub fewer : n < h → true ≡ beats new held

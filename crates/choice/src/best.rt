@@ -5,7 +5,7 @@ use search::Read;
 ghost use mathlib.Core.Path.{_≡_};
 ghost use Rattle.annex10.specs.Repair.{count};
 ghost use Rattle.search.specs.Choice.{beats};
-ghost use Rattle.trials.specs.Chosen.{chosenRead};
+ghost use Rattle.choice.specs.Chosen.{chosenRead};
 
 // How many positions are repaired.
 pub fn repairs_of(repairs: Repairs) -> u32

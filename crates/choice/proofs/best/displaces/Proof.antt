@@ -1,9 +1,9 @@
--- `trials::choice::displaces` meets its contract: by the two counts, and by cn0 where they are equal.
+-- `choice::best::displaces` meets its contract: by the two counts, and by cn0 where they are equal.
 -- Assumes nothing.
-use Rattle.trials.proofs.Choosing.{fewer, as-many, more}
+use Rattle.choice.proofs.Choosing.{fewer, as-many, more}
 use borrow.Author.Needs.{needs}
-use Rattle.trials.proofs.choice.displaces.Statement.{statement}
-use Rattle.trials.proofs.choice.displaces.Tie as tie
+use Rattle.choice.proofs.best.displaces.Statement.{statement}
+use Rattle.choice.proofs.best.displaces.Tie as tie
 
 repairs-of-requires : tie.Need-repairs-of-requires
 repairs-of-requires c κs = search needs

@@ -5,3 +5,4 @@ pub mod Fold
 pub mod Xor
 pub mod Bits
 pub mod Members
+pub mod Telling

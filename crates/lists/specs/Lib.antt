@@ -1,2 +1,3 @@
 pub mod From
 pub mod Bits
+pub mod Told

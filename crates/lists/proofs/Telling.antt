@@ -1,0 +1,22 @@
+-- Laws of answers in the rules' words.
+--     told-refused   with a number that is not 0 there are no values
+--     told-done      with number 0 there are
+--     told-values    the values of an answer with number 0
+-- Assumes nothing.
+use mathlib.Core.Path.{_≡_, refl, ap}
+use mathlib.Core.Option.{none, some}
+use Prim.Native.Nat.{ℕ, zero, suc}
+use native.Mathlib.Omega.{arith}
+use Rattle.lists.specs.Told.{Told, tell}
+
+module _ {A : Type 0} (v : A) where
+  pub told-refused : {n m : ℕ} → n ≡ m → (n ≡ 0 → ⊥) → _≡_ {A = Told A} (n, none) (tell m v)
+  told-refused {n = zero} e h = absurd (h refl)
+  told-refused {n = suc n} e h = rw (← e)
+
+  pub told-done : {n m : ℕ} → n ≡ m → n ≡ 0 → _≡_ {A = Told A} (0, some v) (tell m v)
+  told-done e z = rw (← e, z)
+
+  pub told-values : (n : ℕ) {x : A} → tell n v ≡ (0, some x) → v ≡ x
+  told-values zero e = let s = ap (λ (t : Told A). t .1) e in cc
+  told-values (suc n) e = let z = ap (λ (t : Told A). t .0) e in absurd (omega arith)

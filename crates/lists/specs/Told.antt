@@ -10,3 +10,8 @@ Told A = ℕ × Option A
 abbrev pub tell : {A : Type 0} → ℕ → A → Told A
 tell zero v = (0, some v)
 tell (suc n) v = (suc n, none)
+
+-- what is done with the values: a refusal stays as it is
+abbrev pub andThen : {A B : Type 0} → Told A → (A → Told B) → Told B
+andThen (n, some v) f = f v
+andThen (n, none) f = (n, none)

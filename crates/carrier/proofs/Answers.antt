@@ -9,7 +9,7 @@ use mathlib.Core.Bool.{Bool, true, false}
 use Prim.Native.Nat.{ℕ, zero, suc}
 use lib.ListN.{length}
 use lib.Ieee.{Float, binary32, mul, le}
-use Rattle.math.specs.Complex.{zeroF}
+use Rattle.floats.specs.Zero.{zeroF}
 use Rattle.carrier.specs.declared.search.Best.{Best}
 use Rattle.carrier.specs.declared.search.Search.the-variants as search
 use Rattle.carrier.specs.declared.notch.Floor.the-variants as notch

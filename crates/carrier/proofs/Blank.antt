@@ -15,7 +15,7 @@ use lib.Ieee.{Float, nan, inf, fin, binary32, unlike, up, down, below, level, of
 use lib.Ieee.Bits.{is-true}
 use lib.Ieee.Exact.{HasValue, round-exact}
 use lib.Ieee.Fits.{down-pos}
-use Rattle.math.specs.Complex.{zeroF}
+use Rattle.floats.specs.Zero.{zeroF}
 use Rattle.math.specs.Parabola.{parabola}
 use Rattle.floats.proofs.Order.{zero-of}
 use Rattle.carrier.specs.declared.metric.Carrier.the-variants.{Peak}

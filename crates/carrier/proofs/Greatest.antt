@@ -17,7 +17,7 @@ use lib.Dec.{T, ltb}
 use lib.ListN.{length}
 use lib.Ieee.{Float, lt, le, isNan}
 use lib.Ieee.Bits.{is-true, is-false}
-use Rattle.math.specs.Complex.{zeroF}
+use Rattle.floats.specs.Zero.{zeroF}
 use Rattle.carrier.specs.declared.search.Best.{Best}
 use Rattle.carrier.specs.declared.search.Search.the-variants.{Found}
 use Rattle.carrier.specs.Refusals.{searchNumber}

@@ -5,7 +5,7 @@ use mathlib.Core.Bool.{Bool, true, false}
 use Prim.Native.Nat.{ℕ, zero, suc, _+_, _-_}
 use lib.ListN.{length}
 use lib.Ieee.{Float, binary32, mul, le}
-use Rattle.math.specs.Complex.{zeroF}
+use Rattle.floats.specs.Zero.{zeroF}
 use Rattle.math.specs.Parabola.{parabola}
 use Rattle.carrier.specs.declared.metric.Carrier.{Carrier}
 use Rattle.carrier.specs.declared.metric.Carrier.the-variants.{Peak, Weak, Refused}

@@ -6,7 +6,7 @@ use Prim.Native.Nat.{ℕ, zero, suc, _+_}
 use lib.Dec.{ltb}
 use lib.ListN.{length}
 use lib.Ieee.{Float, binary32, add}
-use Rattle.math.specs.Complex.{zeroF}
+use Rattle.floats.specs.Zero.{zeroF}
 use Rattle.carrier.specs.declared.notch.Floor.{Floor}
 use Rattle.carrier.specs.declared.notch.Floor.the-variants.{Is, Refused}
 use Rattle.carrier.specs.Refusals.{floorNumber}

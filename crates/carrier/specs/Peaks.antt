@@ -5,7 +5,7 @@ use mathlib.Core.Bool.{cond}
 use Prim.Native.Nat.{ℕ, zero, suc, _+_, _-_, _*_, _/_}
 use lib.ListN.{getD, length}
 use lib.Ieee.{Float, nan, lt}
-use Rattle.math.specs.Complex.{zeroF}
+use Rattle.floats.specs.Zero.{zeroF}
 use Rattle.carrier.specs.declared.search.Best.{Best}
 use Rattle.carrier.specs.declared.search.Search.{Search}
 use Rattle.carrier.specs.declared.search.Search.the-variants.{Found, Refused}

@@ -11,14 +11,14 @@ use Rattle.place.specs.declared.Slicer.{Slicer}
 use Rattle.place.specs.Step.{symbolStart}
 use Rattle.place.specs.All.{listed}
 use Rattle.kernels.specs.Symbols.{symbolOf}
-use Rattle.kernels.specs.Slices.{greaterBy, digit}
+use Rattle.kernels.specs.Slices.{greaterBy, asBit}
 use Rattle.search.specs.Seen.{bitsAt}
 
 -- bit j of a slicer at a place: 1 exactly when the first symbol of its pair is strictly greater than the second. A symbol is the
 -- sum of four samples; the coherent slicer compares real parts, the noncoherent one norms
 unfoldable pub slicerBit : List Float → Slicer → Place → ℕ → ℕ
 slicerBit samples slicer p j =
-    digit
+    asBit
     (greaterBy slicer
     (symbolOf samples (p .phase) (symbolStart p + 2 * j))
     (symbolOf samples (p .phase) (symbolStart p + 2 * j + 1)))

@@ -19,7 +19,7 @@ use Rattle.lists.proofs.Table.{Where, where-more, length-tabulate, getD-tabulat
 use Rattle.lists.proofs.Bits.{value-lt, value-split}
 use Rattle.place.specs.declared.Slicer.{Slicer}
 use Rattle.kernels.specs.Slices.{slicedBit, sliced, streamsOf}
-use Rattle.kernels.specs.Joins.{bitsOf, apartOf, joined, bytesOf}
+use Rattle.kernels.specs.Inner.{bitsInTurn, apartOf, joined, bytesOf}
 use Rattle.kernels.proofs.Slicing.{slicedBit-lt, sliced-length, streams-length}
 
 -- two stores, one in each stream
@@ -100,8 +100,8 @@ module _ (slicer : Slicer) (row : List Float) where
   abbrev streamBit : ℕ → ℕ
   streamBit j = slicedBit slicer row (j / 144) (j % 144)
 
-  apart : apartOf (bitsOf slicer row) ≡ tabulate 288 streamBit
-  unfolding apartOf bitsOf
+  apart : apartOf (bitsInTurn slicer row) ≡ tabulate 288 streamBit
+  unfolding apartOf bitsInTurn
   apart =
       let g : ℕ → ℕ = λ (j : ℕ). slicedBit slicer row (j % 2) (j / 2) in
       same 288 (λ (j : ℕ). getD (tabulate 288 g) (2 * (j % 144) + j / 144) 0) streamBit
@@ -140,7 +140,7 @@ module _ (slicer : Slicer) (row : List Float) where
             ap (λ (m : ℕ). getD (p ++ q) m 0) b ∙ (getD-append-add p q (k - 18) 0 ∙ (byte-is 1 (k - 18) (omega arith) ∙ rw a))
       ]))
 
-  pub bytes-are : {bits p : List ℕ} → bits ≡ bitsOf slicer row → p ≡ bytesOf bits → p ≡ streamsOf slicer row
+  pub bytes-are : {bits p : List ℕ} → bits ≡ bitsInTurn slicer row → p ≡ bytesOf bits → p ≡ streamsOf slicer row
   unfolding bytesOf
   bytes-are e g =
       let l : (j : ℕ) → streamBit j < 2 = λ j. slicedBit-lt slicer row (j / 144) (j % 144) in

@@ -2,3 +2,4 @@ pub mod Summing
 pub mod Slicing
 pub mod Joining
 pub mod Measuring
+pub mod Told

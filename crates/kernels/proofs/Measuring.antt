@@ -5,6 +5,7 @@
 -- Assumes nothing.
 use mathlib.Core.Path.{_≡_, ap, _∙_}
 use mathlib.Core.List.{List}
+use mathlib.Core.Option.{some}
 use Prim.Native.Nat.{ℕ, _+_, _-_, _*_, _/_, _%_, _^_, _<_}
 use native.Mathlib.Nat.{mod-lt}
 use native.Mathlib.Omega.{arith}
@@ -15,8 +16,7 @@ use lib.Ieee.{Float}
 use Rattle.lists.specs.Bits.{bitAt}
 use Rattle.math.specs.Complex.{plusOf, normOf}
 use Rattle.kernels.specs.Symbols.{complexAt}
-use Rattle.kernels.specs.declared.power.Power.the-variants.{Is}
-use Rattle.kernels.specs.Powers.{pulseNorm, middle, emptyNorm, powerOf, noiseOf, powerNumber, powerAt, noiseAt}
+use Rattle.kernels.specs.Powers.{pulseNorm, middle, emptyNorm, powerOf, noiseOf, powerNumber, powerAt, noisePowerAt}
 
 -- a bit of a byte that is read once
 bit-there : (bs : List ℕ) (k m : ℕ) → m < 8 → getD bs k 0 / 2 ^ (7 - m) % 2 ≡ bitAt bs (8 * k + m)
@@ -43,10 +43,10 @@ module _ (xs : List Float) (message : List ℕ) (k m : ℕ) {b : ℕ} where
       g ∙ ap (λ (x : ℕ). normOf (plusOf (complexAt xs (8 * (8 * k + m) + 4 * x + 1)) (complexAt xs (8 * (8 * k + m) + 4 * x + 1 + 1)))) (e ∙ bit-there message k m h)
 
 module _ (xs : List Float) (message : List ℕ) where
-  pub power-done : length xs ≡ 448 → length message ≡ 14 → powerAt xs message ≡ Is (powerOf 14 xs message)
+  pub power-done : length xs ≡ 448 → length message ≡ 14 → powerAt xs message ≡ (0, some (powerOf 14 xs message))
   unfolding powerAt powerNumber
   power-done a b = simp (eq-eqb _ _ a, eq-eqb _ _ b)
 
-  pub noise-done : length xs ≡ 1792 → length message ≡ 14 → noiseAt xs message ≡ Is (noiseOf 14 xs message)
-  unfolding noiseAt powerNumber
+  pub noise-done : length xs ≡ 1792 → length message ≡ 14 → noisePowerAt xs message ≡ (0, some (noiseOf 14 xs message))
+  unfolding noisePowerAt powerNumber
   noise-done a b = simp (eq-eqb _ _ a, eq-eqb _ _ b)

@@ -24,29 +24,29 @@ use Rattle.math.specs.Complex.{normOf}
 use Rattle.place.specs.declared.Slicer.{Slicer}
 use Rattle.place.specs.declared.Slicer.the-variants.{Coherent, Noncoherent}
 use Rattle.kernels.specs.Symbols.{complexAt}
-use Rattle.kernels.specs.Slices.{greaterBy, digit, slicedBit, sliced, streamsOf, demodulated}
-use Rattle.kernels.specs.Joins.{normsOf, bitsOf}
+use Rattle.kernels.specs.Slices.{greaterBy, asBit, slicedBit, sliced, streamsOf, demodulated}
+use Rattle.kernels.specs.Inner.{normsOf, bitsInTurn}
 
 pub bit-inside : (slicer : Slicer) (row : List Float) (stream i : ℕ) {z w : Complex} {t : Bool} → 2 * i + stream + 1 < 288
     → z ≡ complexAt row (2 * i + stream) → w ≡ complexAt row (2 * i + stream + 1) → t ≡ greaterBy slicer z w
-    → digit t ≡ slicedBit slicer row stream i
+    → asBit t ≡ slicedBit slicer row stream i
 unfolding slicedBit
 bit-inside slicer row stream i h e f g = rw (lt-ltb _ _ h, g, e, f)
 
 -- the bits of both streams in turn: bit j compares symbols j and j + 1
 in-turn : (slicer : Slicer) (row : List Float) (j : ℕ) → j < 287
-    → digit (greaterBy slicer (complexAt row j) (complexAt row (j + 1))) ≡ slicedBit slicer row (j % 2) (j / 2)
+    → asBit (greaterBy slicer (complexAt row j) (complexAt row (j + 1))) ≡ slicedBit slicer row (j % 2) (j / 2)
 in-turn slicer row j h =
     let q : 2 * (j / 2) + j % 2 ≡ j = omega arith in
     bit-inside slicer row (j % 2) (j / 2) (omega arith) (rw q) (rw q) refl
 
-pub real-bit : (row : List Float) (j : ℕ) {b : ℕ} → j < 287 → b ≡ digit (lt (getD row (2 * (j + 1)) nan) (getD row (2 * j) nan))
+pub real-bit : (row : List Float) (j : ℕ) {b : ℕ} → j < 287 → b ≡ asBit (lt (getD row (2 * (j + 1)) nan) (getD row (2 * j) nan))
     → b ≡ slicedBit Coherent row (j % 2) (j / 2)
 unfolding complexAt
 real-bit row j h e = e ∙ in-turn Coherent row j h
 
 pub norm-bit : (row : List Float) (j : ℕ) {norms : List Float} {b : ℕ} → j < 287 → norms ≡ normsOf row
-    → b ≡ digit (lt (getD norms (j + 1) nan) (getD norms j nan)) → b ≡ slicedBit Noncoherent row (j % 2) (j / 2)
+    → b ≡ asBit (lt (getD norms (j + 1) nan) (getD norms j nan)) → b ≡ slicedBit Noncoherent row (j % 2) (j / 2)
 unfolding normsOf
 norm-bit row j h n e =
     let f : ℕ → Float = λ (i : ℕ). normOf (complexAt row i) in
@@ -58,16 +58,16 @@ last-bit slicer row = refl
 
 -- the last bit is stored after the loop
 pub bits-done : (slicer : Slicer) (row : List Float) (xs : List ℕ) (i : ℕ) → i ≤ 287 → 287 ≤ i
-    → Done 0 (λ (j : ℕ). slicedBit slicer row (j % 2) (j / 2)) 288 xs i → set xs 287 0 ≡ bitsOf slicer row
-unfolding bitsOf
+    → Done 0 (λ (j : ℕ). slicedBit slicer row (j % 2) (j / 2)) 288 xs i → set xs 287 0 ≡ bitsInTurn slicer row
+unfolding bitsInTurn
 bits-done slicer row xs i a b r =
     let f : ℕ → ℕ = λ (j : ℕ). slicedBit slicer row (j % 2) (j / 2) in
     let e : i ≡ 287 = omega arith in
     done-all 0 f 288 (set xs 287 0) (287 + 1) (omega arith) (done-more 0 f 288 xs 287 0 (omega arith) (rw e at r) (last-bit slicer row))
 
-digit-lt : (t : Bool) → digit t < 2
-digit-lt true = lit< tt
-digit-lt false = lit< tt
+asBit-lt : (t : Bool) → asBit t < 2
+asBit-lt true = lit< tt
+asBit-lt false = lit< tt
 
 either : (t : Bool) {n : ℕ} → n < 2 → cond t n 0 < 2
 either true h = h
@@ -76,7 +76,7 @@ either false h = lit< tt
 pub slicedBit-lt : (slicer : Slicer) (row : List Float) (stream i : ℕ) → slicedBit slicer row stream i < 2
 unfolding slicedBit
 slicedBit-lt slicer row stream i =
-    either (ltb (2 * i + stream + 1) 288) (digit-lt (greaterBy slicer (complexAt row (2 * i + stream)) (complexAt row (2 * i + stream + 1))))
+    either (ltb (2 * i + stream + 1) 288) (asBit-lt (greaterBy slicer (complexAt row (2 * i + stream)) (complexAt row (2 * i + stream + 1))))
 
 module _ (slicer : Slicer) (row : List Float) where
   pub sliced-length : (stream : ℕ) → length (sliced slicer row stream) ≡ 18

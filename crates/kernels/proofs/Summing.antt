@@ -16,8 +16,8 @@ use lib.ListN.{length, getD, set, take, drop}
 use lib.Seq.{getD-take, getD-drop}
 use lib.Ieee.{Float, nan}
 use Rattle.lists.proofs.Table.{Where, where-more, length-tabulate, getD-tabulate}
-use Rattle.kernels.specs.Symbols.{complexAt, sumFrom, symbolOf, numberOf, symbolsOf, accumulated}
-use Rattle.kernels.specs.Running.{fourFrom, runningSums}
+use Rattle.kernels.specs.Symbols.{complexAt, sumFrom, symbolOf, symbolPart, symbolsOf, accumulated}
+use Rattle.kernels.specs.Inner.{fourFrom, runningSums}
 
 -- the running sums hold both parts of the sum from number j on
 module _ (s : List Float) (j : ℕ) where
@@ -41,8 +41,8 @@ module _ (s : List Float) (j : ℕ) where
 
 -- the numbers of symbol n of phase k
 module _ (s : List Float) (k n : ℕ) (l : n < 288) where
-  re-is : numberOf s (576 * k + 2 * n) ≡ symbolOf s k n .re
-  unfolding numberOf
+  re-is : symbolPart s (576 * k + 2 * n) ≡ symbolOf s k n .re
+  unfolding symbolPart
   re-is =
       let i = 576 * k + 2 * n in
       let a : i % 2 ≡ 0 = omega arith in
@@ -51,8 +51,8 @@ module _ (s : List Float) (k n : ℕ) (l : n < 288) where
       let d : i / 2 % 288 ≡ n = rw h (omega arith) in
       rw (a, b, d)
 
-  im-is : numberOf s (576 * k + 2 * n + 1) ≡ symbolOf s k n .im
-  unfolding numberOf
+  im-is : symbolPart s (576 * k + 2 * n + 1) ≡ symbolOf s k n .im
+  unfolding symbolPart
   im-is =
       let i = 576 * k + 2 * n + 1 in
       let a : i % 2 ≡ 1 = omega arith in
@@ -77,8 +77,8 @@ stored-next block k e j he q other =
 
 -- symbol n of phase k of a block is stored after those before it
 pub pair-more : (s xs sums : List Float) (block k n : ℕ) → block < 36 → k < 4 → n < 8 → sums ≡ runningSums s block
-    → Where nan (numberOf s) 2304 xs (Stored block (16 * k + 2 * n))
-    → Where nan (numberOf s) 2304 (set (set xs (576 * k + 2 * (8 * block + n)) (getD sums (2 * (4 * n + k)) nan)) (576 * k + 2 * (8 * block + n) + 1) (getD sums (2 * (4 * n + k) + 1) nan)) (Stored block (16 * k + 2 * (n + 1)))
+    → Where nan (symbolPart s) 2304 xs (Stored block (16 * k + 2 * n))
+    → Where nan (symbolPart s) 2304 (set (set xs (576 * k + 2 * (8 * block + n)) (getD sums (2 * (4 * n + k)) nan)) (576 * k + 2 * (8 * block + n) + 1) (getD sums (2 * (4 * n + k) + 1) nan)) (Stored block (16 * k + 2 * (n + 1)))
 unfolding symbolOf runningSums
 pair-more s xs sums block k n hb hk hn e r =
     let i = 576 * k + 2 * (8 * block + n) in
@@ -93,32 +93,32 @@ pair-more s xs sums block k n hb hk hn e r =
     let v : 576 * k + 16 * block + (2 * n + 1) ≡ i + 1 = omega arith in
     let w : 576 * k + 16 * block + 2 * n ≡ i = omega arith in
     let z : 16 * k + (2 * n + 1) ≡ 16 * k + 2 * n + 1 = omega arith in
-    where-more nan (numberOf s) 2304 (set xs i (getD sums from nan)) (Stored block (16 * k + (2 * n + 1))) (Stored block (16 * k + 2 * (n + 1))) (i + 1) (getD sums (from + 1) nan) (omega arith)
+    where-more nan (symbolPart s) 2304 (set xs i (getD sums from nan)) (Stored block (16 * k + (2 * n + 1))) (Stored block (16 * k + 2 * (n + 1))) (i + 1) (getD sums (from + 1) nan) (omega arith)
     (rw (e, getD-tabulate 64 f (from + 1) nan (omega arith), im-is s k (8 * block + n) l, b) (four-im s j))
     (λ m h q other. stored-next block k (2 * n + 1) m (omega arith) (rw u q) (λ x. other (x ∙ v)))
-    (where-more nan (numberOf s) 2304 xs (Stored block t) (Stored block (16 * k + (2 * n + 1))) i (getD sums from nan) (omega arith)
+    (where-more nan (symbolPart s) 2304 xs (Stored block t) (Stored block (16 * k + (2 * n + 1))) i (getD sums from nan) (omega arith)
     (rw (e, getD-tabulate 64 f from nan (omega arith), re-is s k (8 * block + n) l, a) (four-re s j))
     (λ m h q other. stored-next block k (2 * n) m (omega arith) (rw (← z) q) (λ x. other (x ∙ w)))
     r)
 
 -- before the loops of a block, and after them
 module _ (s xs : List Float) (block : ℕ) where
-  pub block-starts : Where nan (numberOf s) 2304 xs (λ (j : ℕ). j % 576 < 16 * block) → Where nan (numberOf s) 2304 xs (Stored block (16 * 0))
+  pub block-starts : Where nan (symbolPart s) 2304 xs (λ (j : ℕ). j % 576 < 16 * block) → Where nan (symbolPart s) 2304 xs (Stored block (16 * 0))
   block-starts r = record { size = r .size; each = λ j h q. r .each j h (omega arith) }
 
-  pub block-ends : (k : ℕ) → 4 ≤ k → Where nan (numberOf s) 2304 xs (Stored block (16 * k)) → Where nan (numberOf s) 2304 xs (λ (j : ℕ). j % 576 < 16 * (block + 1))
+  pub block-ends : (k : ℕ) → 4 ≤ k → Where nan (symbolPart s) 2304 xs (Stored block (16 * k)) → Where nan (symbolPart s) 2304 xs (λ (j : ℕ). j % 576 < 16 * (block + 1))
   block-ends k l r = record { size = r .size; each = λ j h q. r .each j h (omega arith, omega arith) }
 
 pub symbols-length : (s : List Float) → length (symbolsOf s) ≡ 2304
 unfolding symbolsOf
-symbols-length s = length-tabulate 2304 (numberOf s)
+symbols-length s = length-tabulate 2304 (symbolPart s)
 
 -- row k holds the symbols of phase k
 pub symbol-stands : (s : List Float) (k n : ℕ) → k < 4 → n < 288 → complexAt (symbolsOf s) (288 * k + n) ≡ symbolOf s k n
 unfolding complexAt symbolsOf
 symbol-stands s k n hk hn =
     let a : 2 * (288 * k + n) ≡ 576 * k + 2 * n = omega arith in
-    rw (a, getD-tabulate 2304 (numberOf s) (576 * k + 2 * n) nan (omega arith), getD-tabulate 2304 (numberOf s) (576 * k + 2 * n + 1) nan (omega arith), re-is s k n hn, im-is s k n hn)
+    rw (a, getD-tabulate 2304 (symbolPart s) (576 * k + 2 * n) nan (omega arith), getD-tabulate 2304 (symbolPart s) (576 * k + 2 * n + 1) nan (omega arith), re-is s k n hn, im-is s k n hn)
 
 -- complex numbers of a part of a row
 pub complex-part : (xs : List Float) (a m j : ℕ) → j < m → complexAt (take (2 * m) (drop (2 * a) xs)) j ≡ complexAt xs (a + j)

@@ -5,12 +5,13 @@ use mathlib.Core.List.{List}
 use Prim.Native.Nat.{ℕ}
 use lib.Dec.{eqb}
 use lib.ListN.{length}
-use lib.Ieee.{Float, binary32, ofBits}
+use lib.Ieee.{Float}
+use Rattle.floats.specs.Zero.{zeroF}
 use Rattle.kernels.specs.declared.both.Powers.{Powers}
 use Rattle.kernels.specs.Powers.{powerOf, noiseOf}
 
 abbrev pub refusedPowers : Powers
-refusedPowers = record { number = 2; prompt = ofBits binary32 0; noise = ofBits binary32 0 }
+refusedPowers = record { number = 2; prompt = zeroF; noise = zeroF }
 
 -- 224 symbols, 896 samples and 14 bytes, else 2
 unfoldable pub powersAt : List Float → List Float → List ℕ → Powers

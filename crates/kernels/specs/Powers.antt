@@ -2,11 +2,13 @@
 -- Assumes nothing.
 use mathlib.Core.List.{List}
 use mathlib.Core.Bool.{cond}
-use Prim.Native.Nat.{ℕ, zero, suc, _+_, _-_, _*_}
+use mathlib.Core.Option.{none, some}
+use Prim.Native.Nat.{ℕ, _+_, _-_, _*_}
 use lib.Dec.{eqb}
 use lib.ListN.{length}
 use lib.Ieee.{Float}
 use Rattle.lists.specs.Bits.{bitAt}
+use Rattle.lists.specs.Told.{Told, tell}
 use Rattle.math.specs.Complex.{plusOf, normOf}
 use Rattle.math.specs.Sum.{total}
 use Rattle.kernels.specs.Symbols.{complexAt}
@@ -41,15 +43,15 @@ powerNumber floats xs message =
     2)
     2
 
--- a number and a value as an answer: the value with number 0, a refusal with any other
-abbrev pub powerAnswer : ℕ → Float → Power
-powerAnswer zero p = Is p
-powerAnswer (suc n) p = Refused (suc n)
+-- an answer: its number, and the power with number 0
+abbrev pub powerTold : Power → Told Float
+powerTold (Is p) = (0, some p)
+powerTold (Refused n) = (n, none)
 
 -- what `postdecode_power` answers: 224 symbols, 14 bytes
-unfoldable pub powerAt : List Float → List ℕ → Power
-powerAt symbols message = powerAnswer (powerNumber 448 symbols message) (powerOf 14 symbols message)
+unfoldable pub powerAt : List Float → List ℕ → Told Float
+powerAt symbols message = tell (powerNumber 448 symbols message) (powerOf 14 symbols message)
 
 -- what `postdecode_noise_power` answers: 896 samples, 14 bytes
-unfoldable pub noiseAt : List Float → List ℕ → Power
-noiseAt samples message = powerAnswer (powerNumber 1792 samples message) (noiseOf 14 samples message)
+unfoldable pub noisePowerAt : List Float → List ℕ → Told Float
+noisePowerAt samples message = tell (powerNumber 1792 samples message) (noiseOf 14 samples message)

@@ -19,15 +19,15 @@ greaterBy Coherent a b = lt (b .re) (a .re)
 greaterBy Noncoherent a b = lt (normOf b) (normOf a)
 
 -- a truth as a bit
-abbrev pub digit : Bool → ℕ
-digit true = 1
-digit false = 0
+abbrev pub asBit : Bool → ℕ
+asBit true = 1
+asBit false = 0
 
 -- bit i of a stream compares symbols 2i + stream and 2i + stream + 1 of a row; it is 0 where there is no second
 unfoldable pub slicedBit : Slicer → List Float → ℕ → ℕ → ℕ
 slicedBit slicer row stream i =
     cond (ltb (2 * i + stream + 1) 288)
-    (digit (greaterBy slicer (complexAt row (2 * i + stream)) (complexAt row (2 * i + stream + 1))))
+    (asBit (greaterBy slicer (complexAt row (2 * i + stream)) (complexAt row (2 * i + stream + 1))))
     0
 
 -- the 18 bytes of a stream

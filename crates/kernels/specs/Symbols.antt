@@ -28,12 +28,12 @@ abbrev pub partOf : ℕ → Complex → Float
 partOf c z = cond (eqb c 0) (z .re) (z .im)
 
 -- number i of the symbols: part i % 2 of symbol i / 2 % 288 of phase i / 576
-unfoldable pub numberOf : List Float → ℕ → Float
-numberOf samples i = partOf (i % 2) (symbolOf samples (i / 576) (i / 2 % 288))
+unfoldable pub symbolPart : List Float → ℕ → Float
+symbolPart samples i = partOf (i % 2) (symbolOf samples (i / 576) (i / 2 % 288))
 
 -- the symbols of a window: 4 rows of 288 symbols, one for each phase
 unfoldable pub symbolsOf : List Float → List Float
-symbolsOf samples = tabulate 2304 (numberOf samples)
+symbolsOf samples = tabulate 2304 (symbolPart samples)
 
 -- what `accumulate_symbols` answers, and what stands in the symbols then
 unfoldable pub accumulated : List Float → List Float → ℕ × List Float

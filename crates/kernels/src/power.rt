@@ -5,7 +5,7 @@ use crate::norms::pulse_norm;
 ghost use mathlib.Core.Path.{_≡_};
 ghost use Prim.Native.Nat.{_*_, _≤_};
 ghost use lib.ListN.{length};
-ghost use Rattle.kernels.specs.Powers.{powerOf, noiseOf, powerAt, noiseAt};
+ghost use Rattle.kernels.specs.Powers.{powerOf, noiseOf, powerTold, powerAt, noisePowerAt};
 
 pub enum Power {
     Is(f32),
@@ -43,7 +43,7 @@ fn empty_power(samples: &[f32], message: &[u8]) -> f32
 }
 
 pub fn postdecode_power(symbols: &[f32], message: &[u8]) -> Power
-    ensures { λ r. ⌜ r ≡ powerAt (now (symbols .entry)) (now (message .entry)) ⌝ }
+    ensures { λ r. ⌜ powerTold r ≡ powerAt (now (symbols .entry)) (now (message .entry)) ⌝ }
 {
     if symbols.len() != 448 {
         return Power::Refused(2);
@@ -55,7 +55,7 @@ pub fn postdecode_power(symbols: &[f32], message: &[u8]) -> Power
 }
 
 pub fn postdecode_noise_power(samples: &[f32], message: &[u8]) -> Power
-    ensures { λ r. ⌜ r ≡ noiseAt (now (samples .entry)) (now (message .entry)) ⌝ }
+    ensures { λ r. ⌜ powerTold r ≡ noisePowerAt (now (samples .entry)) (now (message .entry)) ⌝ }
 {
     if samples.len() != 1792 {
         return Power::Refused(2);

@@ -6,12 +6,12 @@ ghost use mathlib.Core.Path.{_≡_};
 ghost use Prim.Native.Nat.{_*_, _<_, _≤_};
 ghost use lib.ListN.{length};
 ghost use Rattle.place.specs.declared.Slicer.the-variants.{Coherent, Noncoherent};
-ghost use Rattle.kernels.specs.Slices.{digit, streamsOf, demodulated};
-ghost use Rattle.kernels.specs.Joins.{normsOf, bitsOf, apartOf, joined, bytesOf};
+ghost use Rattle.kernels.specs.Slices.{asBit, streamsOf, demodulated};
+ghost use Rattle.kernels.specs.Inner.{normsOf, bitsInTurn, apartOf, joined, bytesOf};
 
 // A truth as a bit.
 fn bit(t: bool) -> u8
-    ensures { λ r. ⌜ r ≡ digit t ⌝ }
+    ensures { λ r. ⌜ r ≡ asBit t ⌝ }
 {
     if t { 1 } else { 0 }
 }
@@ -19,7 +19,7 @@ fn bit(t: bool) -> u8
 // The bits of both streams in turn, by real parts. The last symbol has none after it.
 fn compare_reals(row: &[f32], bits: &mut [u8])
     requires { ⌜ (length (now row) ≡ 576) × (length (now bits) ≡ 288) ⌝ }
-    ensures { λ _. ⌜ now (bits .exit) ≡ bitsOf Coherent (now (row .entry)) ⌝ }
+    ensures { λ _. ⌜ now (bits .exit) ≡ bitsInTurn Coherent (now (row .entry)) ⌝ }
 {
     for i in 0..287 {
         bits[i] = bit(row[2 * i] > row[2 * (i + 1)]);
@@ -40,7 +40,7 @@ fn find_norms(row: &[f32], norms: &mut [f32])
 // The bits of both streams in turn, by norms.
 fn compare_norms(row: &[f32], bits: &mut [u8])
     requires { ⌜ (length (now row) ≡ 576) × (length (now bits) ≡ 288) ⌝ }
-    ensures { λ _. ⌜ now (bits .exit) ≡ bitsOf Noncoherent (now (row .entry)) ⌝ }
+    ensures { λ _. ⌜ now (bits .exit) ≡ bitsInTurn Noncoherent (now (row .entry)) ⌝ }
 {
     let mut norms = [0.0f32; 288];
     find_norms(row, &mut norms);
@@ -52,7 +52,7 @@ fn compare_norms(row: &[f32], bits: &mut [u8])
 
 fn compare(row: &[f32], slicer: Slicer, bits: &mut [u8])
     requires { ⌜ (length (now row) ≡ 576) × (length (now bits) ≡ 288) ⌝ }
-    ensures { λ _. ⌜ now (bits .exit) ≡ bitsOf slicer (now (row .entry)) ⌝ }
+    ensures { λ _. ⌜ now (bits .exit) ≡ bitsInTurn slicer (now (row .entry)) ⌝ }
 {
     match slicer {
         Slicer::Coherent => compare_reals(row, bits),

@@ -3,7 +3,7 @@ ghost use mathlib.Core.Path.{_≡_};
 ghost use Prim.Native.Nat.{_<_};
 ghost use lib.ListN.{length};
 ghost use Rattle.kernels.specs.Symbols.{symbolsOf, accumulated};
-ghost use Rattle.kernels.specs.Running.{runningSums};
+ghost use Rattle.kernels.specs.Inner.{runningSums};
 
 // A sum for each of 64 numbers of the samples: itself and the next three of its part. Neighbours are summed side by side.
 fn running_sums(samples: &[f32], block: usize, sums: &mut [f32])

@@ -1,7 +1,7 @@
 -- The answers of the carrier calls, flat: number 0 with the values, or a refusal's number with zeros.
 -- Assumes nothing.
 use Prim.Native.Nat.{ℕ}
-use Rattle.math.specs.Complex.{zeroF}
+use Rattle.floats.specs.Zero.{zeroF}
 use Rattle.carrier.specs.Carriers.{numberOf, valuesOf}
 use Rattle.carrier.specs.declared.search.Search.{Search}
 use Rattle.carrier.specs.declared.search.Search.the-variants as search

@@ -5,4 +5,4 @@ pub mod Fold
 pub mod Xor
 pub mod Bits
 pub mod Members
-pub mod Told
+pub mod Telling

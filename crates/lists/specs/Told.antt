@@ -1,5 +1,4 @@
--- An answer in numbers and values: its number, and its values where the number is 0. Where a function answers an enum, a definition
--- beside the enum tells each of its cases so, and the contract speaks of what is told.
+-- An answer in the rules' words: a number, and values only where it is 0.
 -- Assumes nothing.
 use mathlib.Core.Option.{Option, none, some}
 use Prim.Native.Nat.{ℕ, zero, suc}
@@ -15,7 +14,12 @@ done v = (0, some v)
 abbrev pub refused : {A : Type 0} → ℕ → Told A
 refused n = (n, none)
 
--- the values if the number is 0, else the refusal
+-- a number and values as an answer: a refusal keeps none of the values
 abbrev pub tell : {A : Type 0} → ℕ → A → Told A
 tell zero v = done v
 tell (suc n) v = refused (suc n)
+
+-- what is done with the values: a refusal stays as it is
+abbrev pub andThen : {A B : Type 0} → Told A → (A → Told B) → Told B
+andThen (n, some v) f = f v
+andThen (n, none) f = refused n

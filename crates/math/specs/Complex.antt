@@ -1,11 +1,8 @@
 -- Complex numbers of two binary32 floats: each operation is rounded once.
 -- Assumes nothing.
-use lib.Ieee.{Float, binary32, add, mul, ofBits}
+use lib.Ieee.{Float, binary32, add, mul}
+use Rattle.floats.specs.Zero.{zeroF}
 use Rattle.math.specs.declared.Complex.{Complex}
-
--- 0.0
-abbrev pub zeroF : Float
-zeroF = ofBits binary32 0
 
 -- zero: both parts are 0.0
 abbrev pub zeroOf : Complex

@@ -2,7 +2,7 @@
 -- Assumes nothing.
 use mathlib.Core.Bool.{cond}
 use lib.Ieee.{Float, binary32, ofBits, add, sub, mul, div, neg, eq}
-use Rattle.math.specs.Complex.{zeroF}
+use Rattle.floats.specs.Zero.{zeroF}
 
 -- 2.0
 abbrev pub two : Float

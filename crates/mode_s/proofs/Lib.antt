@@ -3,3 +3,4 @@ pub mod Rule
 pub mod Codes
 pub mod Head
 pub mod Text
+pub mod Told

@@ -1,12 +1,20 @@
 -- The header check of a first byte with its repairs.
 -- Assumes nothing.
-use mathlib.Core.Bool.{Bool, cond}
+use mathlib.Core.Bool.{Bool, true, false, cond}
+use mathlib.Core.Option.{none, some}
 use Prim.Native.Nat.{ℕ}
+use Rattle.lists.specs.Told.{Told, tell}
 use Rattle.annex10.specs.declared.Repairs.{Repairs}
 use Rattle.annex10.specs.Repair.{inside, repairedHead}
 use Rattle.mode_s.specs.declared.header.Validity.{Validity}
 use Rattle.mode_s.specs.declared.header.Validity.the-variants.{Valid, Invalid, Refused}
 
+-- an answer: its number, and with number 0 whether the header is taken
+abbrev pub validityTold : Validity → Told Bool
+validityTold Valid = (0, some true)
+validityTold Invalid = (0, some false)
+validityTold (Refused n) = (n, none)
+
 -- what a check of a message of so many bytes answers: 8 for a position outside it, else whether the repaired first byte is taken
-unfoldable pub headerOf : ℕ → (ℕ → Bool) → ℕ → Repairs → Validity
-headerOf bytes taken first ρ = cond (inside bytes ρ) (cond (taken (repairedHead first ρ)) Valid Invalid) (Refused 8)
+unfoldable pub headerOf : ℕ → (ℕ → Bool) → ℕ → Repairs → Told Bool
+headerOf bytes taken first ρ = tell (cond (inside bytes ρ) 0 8) (taken (repairedHead first ρ))

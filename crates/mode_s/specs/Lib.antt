@@ -1,6 +1,7 @@
 pub mod Header
+pub mod Counted
 pub mod Corrected
 pub mod Avr
 pub mod Message
-pub mod Inner
 pub mod Step
+pub mod Inner

@@ -15,6 +15,7 @@ shortMessage b = record { kind = Short; length = 7; bytes = b ++ replicate 7 0 }
 abbrev pub longMessage : List ℕ → ModeSMessage
 longMessage b = record { kind = Long; length = 14; bytes = b }
 
-abbrev pub bitsOf : MessageKind → ℕ
-bitsOf Short = 56
-bitsOf Long = 112
+-- the bits of a kind
+abbrev pub numBits : MessageKind → ℕ
+numBits Short = 56
+numBits Long = 112

@@ -4,7 +4,7 @@ use annex10::Repairs;
 ghost use mathlib.Core.Path.{_≡_};
 ghost use Rattle.annex10.specs.Header.{longHeader};
 ghost use Rattle.annex10.specs.Repair.{repairedHead};
-ghost use Rattle.mode_s.specs.Header.{headerOf};
+ghost use Rattle.mode_s.specs.Header.{validityTold, headerOf};
 ghost use Rattle.mode_s.specs.Inner.{zeroOrWithin, headFlip};
 
 // What a header check answers.
@@ -65,7 +65,7 @@ fn head(first: u8, repairs: Repairs) -> u8
 
 // Whether the first byte of a 14-byte message, repaired, is that of an extended squitter. A position above 111 is refused with 8.
 pub fn header_is_valid(first: u8, repairs: Repairs) -> Validity
-    ensures { λ r. ⌜ r ≡ headerOf 14 longHeader first repairs ⌝ }
+    ensures { λ r. ⌜ validityTold r ≡ headerOf 14 longHeader first repairs ⌝ }
 {
     if !lie_inside(14, repairs) {
         return Validity::Refused(8);

@@ -1,6 +1,6 @@
 // A message of either kind: the bytes and their number beside the kind, since an enum holds no array.
 ghost use mathlib.Core.Path.{_≡_};
-ghost use Rattle.mode_s.specs.Message.{shortMessage, longMessage, bitsOf};
+ghost use Rattle.mode_s.specs.Message.{shortMessage, longMessage, numBits};
 
 pub enum MessageKind {
     Short,
@@ -55,7 +55,7 @@ impl ModeSMessage {
     }
 
     pub fn num_bits(self) -> usize
-        ensures { λ r. ⌜ r ≡ bitsOf (self .kind) ⌝ }
+        ensures { λ r. ⌜ r ≡ numBits (self .kind) ⌝ }
     {
         let kind = self.kind;
         match kind {

@@ -12,7 +12,7 @@ use native.Mathlib.Omega.{arith}
 use lib.Dec.{ltb}
 use borrow.Author.Tests.{lt-ltb, le-ltb, ltb-true}
 use Rattle.lists.specs.Told.{done, refused}
-use Rattle.lists.proofs.Told.{same-values, not-done}
+use Rattle.lists.proofs.Telling.{same-values, not-done}
 use Rattle.place.specs.declared.Place.{Place}
 use Rattle.place.specs.Step.{sampleStart, lastSymbol, within, startingAt, earlierOf, laterOf}
 use Rattle.place.specs.All.{listed}

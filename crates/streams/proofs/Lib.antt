@@ -2,3 +2,4 @@ pub mod Reading
 pub mod Comparing
 pub mod Heading
 pub mod Parting
+pub mod Told

@@ -7,6 +7,7 @@
 -- Assumes nothing.
 use mathlib.Core.Path.{_≡_, refl, sym, ap, _∙_}
 use mathlib.Core.List.{List}
+use mathlib.Core.Option.{none, some}
 use mathlib.Core.Bool.{Bool, true, false, cond}
 use Prim.Native.Nat.{ℕ, zero, suc, _+_, _*_, _<_, _≤_}
 use native.Mathlib.Nat.{add-zero}
@@ -16,9 +17,9 @@ use lib.Dec.{eqb, leb}
 use lib.ListN.{length, getD, replicate}
 use Rattle.lists.specs.Bits.{bitAt, value, packed}
 use Rattle.lists.proofs.Table.{length-tabulate, getD-tabulate}
+use Rattle.lists.proofs.Telling.{told-refused}
 use Rattle.lists.proofs.Bits.{bitAt-lt, bitAt-packed, value-later}
 use Rattle.annex10.specs.Remainder.{remainder}
-use Rattle.streams.specs.declared.crc.Crc.the-variants.{Is, Refused}
 use Rattle.streams.specs.Streams.{messageAt, streamNumber}
 use Rattle.streams.specs.Messages.{extracted}
 use Rattle.streams.specs.Remainders.{crcAt}
@@ -79,11 +80,10 @@ module _ (bytes : List ℕ) (offset : ℕ) where
   unfolding extracted
   extracted-done a b = rw (stream-done bytes offset a b)
 
-  pub crc-refused : {n : ℕ} → n ≡ streamNumber bytes offset → (n ≡ 0 → ⊥) → Refused n ≡ crcAt bytes offset
+  pub crc-refused : {n : ℕ} → n ≡ streamNumber bytes offset → (n ≡ 0 → ⊥) → (n, none) ≡ crcAt bytes offset
   unfolding crcAt
-  crc-refused {n = zero} e h = absurd (h refl)
-  crc-refused {n = suc n} e h = rw (← e)
+  crc-refused = told-refused (remainder (messageAt bytes 14 offset))
 
-  pub crc-done : length bytes ≡ 18 → offset ≤ 32 → crcAt bytes offset ≡ Is (remainder (messageAt bytes 14 offset))
+  pub crc-done : length bytes ≡ 18 → offset ≤ 32 → crcAt bytes offset ≡ (0, some (remainder (messageAt bytes 14 offset)))
   unfolding crcAt
   crc-done a b = rw (stream-done bytes offset a b)

@@ -2,10 +2,12 @@
 -- Assumes nothing.
 use mathlib.Core.List.{List}
 use mathlib.Core.Bool.{cond}
+use mathlib.Core.Option.{none, some}
 use Prim.Native.Nat.{ℕ, zero, suc, _+_}
 use lib.Dec.{eqb}
 use lib.ListN.{length}
 use Rattle.lists.specs.Bits.{bitAt}
+use Rattle.lists.specs.Told.{Told, tell}
 use Rattle.streams.specs.declared.distance.Distance.{Distance}
 use Rattle.streams.specs.declared.distance.Distance.the-variants.{Is, Refused}
 use Rattle.streams.specs.Streams.{messageAt, streamNumber}
@@ -19,11 +21,11 @@ differing x y (suc n) = differing x y n + cond (eqb (bitAt x n) (bitAt y n)) 0 1
 unfoldable pub pairNumber : List ℕ → List ℕ → ℕ → ℕ
 pairNumber a b offset = cond (eqb (length a) 18) (streamNumber b offset) 2
 
--- a number and a value as an answer: the value with number 0, a refusal with any other
-abbrev pub distanceOf : ℕ → ℕ → Distance
-distanceOf zero d = Is d
-distanceOf (suc n) d = Refused (suc n)
+-- an answer: its number, and the distance with number 0
+abbrev pub distanceTold : Distance → Told ℕ
+distanceTold (Is d) = (0, some d)
+distanceTold (Refused n) = (n, none)
 
 -- in how many of the 112 positions the messages of two streams at a bit offset differ
-unfoldable pub distanceAt : List ℕ → List ℕ → ℕ → Distance
-distanceAt a b offset = distanceOf (pairNumber a b offset) (differing (messageAt a 14 offset) (messageAt b 14 offset) 112)
+unfoldable pub distanceAt : List ℕ → List ℕ → ℕ → Told ℕ
+distanceAt a b offset = tell (pairNumber a b offset) (differing (messageAt a 14 offset) (messageAt b 14 offset) 112)

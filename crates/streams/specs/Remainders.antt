@@ -1,17 +1,19 @@
 -- What `compute_crc` answers.
 -- Assumes nothing.
 use mathlib.Core.List.{List}
-use Prim.Native.Nat.{ℕ, zero, suc}
+use mathlib.Core.Option.{none, some}
+use Prim.Native.Nat.{ℕ}
+use Rattle.lists.specs.Told.{Told, tell}
 use Rattle.annex10.specs.Remainder.{remainder}
 use Rattle.streams.specs.declared.crc.Crc.{Crc}
 use Rattle.streams.specs.declared.crc.Crc.the-variants.{Is, Refused}
 use Rattle.streams.specs.Streams.{messageAt, streamNumber}
 
--- a number and a value as an answer: the value with number 0, a refusal with any other
-abbrev pub crcOf : ℕ → ℕ → Crc
-crcOf zero r = Is r
-crcOf (suc n) r = Refused (suc n)
+-- an answer: its number, and the remainder with number 0
+abbrev pub crcTold : Crc → Told ℕ
+crcTold (Is r) = (0, some r)
+crcTold (Refused n) = (n, none)
 
 -- the remainder of the message at a bit offset
-unfoldable pub crcAt : List ℕ → ℕ → Crc
-crcAt bytes offset = crcOf (streamNumber bytes offset) (remainder (messageAt bytes 14 offset))
+unfoldable pub crcAt : List ℕ → ℕ → Told ℕ
+crcAt bytes offset = tell (streamNumber bytes offset) (remainder (messageAt bytes 14 offset))

@@ -3,7 +3,7 @@ use crate::bits::copy_bits;
 use crate::refusal::stream_number;
 use mode_s::crc::crc24;
 ghost use mathlib.Core.Path.{_≡_};
-ghost use Rattle.streams.specs.Remainders.{crcAt};
+ghost use Rattle.streams.specs.Remainders.{crcTold, crcAt};
 
 pub enum Crc {
     Is(u32),
@@ -11,7 +11,7 @@ pub enum Crc {
 }
 
 pub fn compute_crc(bytes: &[u8], offset: usize) -> Crc
-    ensures { λ r. ⌜ r ≡ crcAt (now (bytes .entry)) offset ⌝ }
+    ensures { λ r. ⌜ crcTold r ≡ crcAt (now (bytes .entry)) offset ⌝ }
 {
     let number = stream_number(bytes, offset);
     if number != 0 {

@@ -4,7 +4,7 @@ use crate::refusal::stream_number;
 ghost use mathlib.Core.Path.{_≡_};
 ghost use Prim.Native.Nat.{_+_, _*_, _≤_};
 ghost use lib.ListN.{length};
-ghost use Rattle.streams.specs.Distances.{differing, distanceAt};
+ghost use Rattle.streams.specs.Distances.{differing, distanceTold, distanceAt};
 ghost use Rattle.streams.specs.Streams.{messageAt};
 
 pub enum Distance {
@@ -26,7 +26,7 @@ fn differing_bits(a: &[u8], b: &[u8], offset: usize, n: usize) -> u32
 }
 
 pub fn compute_hamming_distance(a: &[u8], b: &[u8], offset: usize) -> Distance
-    ensures { λ r. ⌜ r ≡ distanceAt (now (a .entry)) (now (b .entry)) offset ⌝ }
+    ensures { λ r. ⌜ distanceTold r ≡ distanceAt (now (a .entry)) (now (b .entry)) offset ⌝ }
 {
     if a.len() != 18 {
         return Distance::Refused(2);

@@ -4,12 +4,12 @@ use mathlib.Core.List.{List}
 use Prim.Native.Nat.{ℕ}
 use lib.Ieee.{Float}
 use Rattle.place.specs.declared.Slicer.{Slicer}
-use Rattle.kernels.specs.Joins.{bitsOf}
+use Rattle.kernels.specs.Inner.{bitsInTurn}
 use borrow.Author.Needs.{needs}
 use Rattle.kernels.proofs.slicers.compare.Statement.{statement}
 use Rattle.kernels.proofs.slicers.compare.Tie as tie
 
-bits-by : (row : List Float) {k l : Slicer} {xs : List ℕ} → k ≡ l → xs ≡ bitsOf l row → xs ≡ bitsOf k row
+bits-by : (row : List Float) {k l : Slicer} {xs : List ℕ} → k ≡ l → xs ≡ bitsInTurn l row → xs ≡ bitsInTurn k row
 bits-by row e f = rw e f
 
 enum-told : tie.Need-enum-told

@@ -6,7 +6,7 @@ use lib.Ieee.{nan}
 use Rattle.lists.proofs.Table.{Done, done-none, done-more, done-all}
 use Rattle.math.specs.Complex.{normOf}
 use Rattle.kernels.specs.Symbols.{complexAt}
-use Rattle.kernels.specs.Joins.{normsOf}
+use Rattle.kernels.specs.Inner.{normsOf}
 use borrow.Author.Needs.{needs}
 use Rattle.kernels.proofs.slicers.find_norms.Statement.{statement}
 use Rattle.kernels.proofs.slicers.find_norms.Tie as tie

@@ -5,7 +5,7 @@ use native.Mathlib.Omega.{arith}
 use lib.Bits.{bitOr}
 use lib.ListN.{getD, length}
 use Rattle.lists.proofs.Table.{Done, done-none, done-more, done-all}
-use Rattle.kernels.specs.Joins.{joined}
+use Rattle.kernels.specs.Inner.{joined}
 use borrow.Author.Needs.{needs}
 use Rattle.kernels.proofs.slicers.join.Statement.{statement}
 use Rattle.kernels.proofs.slicers.join.Tie as tie

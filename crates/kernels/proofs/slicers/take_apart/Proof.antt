@@ -3,7 +3,7 @@ use native.Mathlib.Omega.{arith}
 use Prim.Native.Nat.{ℕ, _+_, _*_, _/_, _%_, _-_, _<_, _≤_}
 use lib.ListN.{getD, length-set}
 use Rattle.lists.proofs.Table.{Where, where-all}
-use Rattle.kernels.specs.Joins.{apartOf}
+use Rattle.kernels.specs.Inner.{apartOf}
 use Rattle.kernels.proofs.Joining.{apart-more}
 use borrow.Author.Needs.{needs}
 use Rattle.kernels.proofs.slicers.take_apart.Statement.{statement}

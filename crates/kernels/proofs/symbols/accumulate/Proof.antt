@@ -5,26 +5,26 @@ use native.Mathlib.Omega.{arith}
 use lib.ListN.{length-set}
 use lib.Ieee.{nan}
 use Rattle.lists.proofs.Table.{Where, where-all}
-use Rattle.kernels.specs.Symbols.{numberOf, symbolsOf}
+use Rattle.kernels.specs.Symbols.{symbolPart, symbolsOf}
 use Rattle.kernels.proofs.Summing.{Stored, pair-more, block-starts, block-ends}
 use borrow.Author.Needs.{needs}
 use Rattle.kernels.proofs.symbols.accumulate.Statement.{statement}
 use Rattle.kernels.proofs.symbols.accumulate.Tie as tie
 
 abbrev Inv-loop3 : tie.InvT-loop3
-Inv-loop3 samples symbols₀ block sums k n₀ symbols n = (n ≤ 8) × Where nan (numberOf samples) 2304 symbols (Stored block (16 * k + 2 * n))
+Inv-loop3 samples symbols₀ block sums k n₀ symbols n = (n ≤ 8) × Where nan (symbolPart samples) 2304 symbols (Stored block (16 * k + 2 * n))
 
 abbrev μ-loop3 : tie.MeasureT-loop3
 μ-loop3 samples symbols₀ block sums k n₀ symbols n = 8 - n
 
 abbrev Inv-loop2 : tie.InvT-loop2
-Inv-loop2 samples symbols₀ block sums k₀ symbols k = (k ≤ 4) × Where nan (numberOf samples) 2304 symbols (Stored block (16 * k))
+Inv-loop2 samples symbols₀ block sums k₀ symbols k = (k ≤ 4) × Where nan (symbolPart samples) 2304 symbols (Stored block (16 * k))
 
 abbrev μ-loop2 : tie.MeasureT-loop2
 μ-loop2 samples symbols₀ block sums k₀ symbols k = 4 - k
 
 abbrev Inv-loop : tie.InvT-loop
-Inv-loop samples symbols₀ block₀ symbols block = (block ≤ 36) × Where nan (numberOf samples) 2304 symbols (λ (j : ℕ). j % 576 < 16 * block)
+Inv-loop samples symbols₀ block₀ symbols block = (block ≤ 36) × Where nan (symbolPart samples) 2304 symbols (λ (j : ℕ). j % 576 < 16 * block)
 
 abbrev μ-loop : tie.MeasureT-loop
 μ-loop samples symbols₀ block₀ symbols block = 36 - block

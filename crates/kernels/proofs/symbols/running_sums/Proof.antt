@@ -4,7 +4,7 @@ use Prim.Native.Nat.{ℕ, _+_, _*_, _-_, _≤_}
 use native.Mathlib.Omega.{arith}
 use lib.Ieee.{nan}
 use Rattle.lists.proofs.Table.{Done, done-none, done-more, done-all}
-use Rattle.kernels.specs.Running.{fourFrom, runningSums}
+use Rattle.kernels.specs.Inner.{fourFrom, runningSums}
 use borrow.Author.Needs.{needs}
 use Rattle.kernels.proofs.symbols.running_sums.Statement.{statement}
 use Rattle.kernels.proofs.symbols.running_sums.Tie as tie

@@ -1,23 +1,33 @@
--- The rows that `demodulate` goes through: norms, the bits of both streams in turn, stream after stream, joined to bytes.
+-- What private functions compute: no public contract cites it.
 -- Assumes nothing.
 use mathlib.Core.List.{List}
 use Prim.Native.Nat.{ℕ, _+_, _*_, _/_, _%_, _^_}
 use lib.Bits.{bitOr}
 use lib.ListN.{getD}
-use lib.Ieee.{Float}
+use lib.Ieee.{Float, nan, binary32, add}
 use Rattle.lists.specs.From.{tabulate}
+use Rattle.floats.specs.Zero.{zeroF}
 use Rattle.math.specs.Complex.{normOf}
 use Rattle.place.specs.declared.Slicer.{Slicer}
 use Rattle.kernels.specs.Symbols.{complexAt}
 use Rattle.kernels.specs.Slices.{slicedBit}
+
+-- numbers i, i + 2, i + 4 and i + 6 of a row, in order, from 0.0
+unfoldable pub fourFrom : List Float → ℕ → Float
+fourFrom xs i =
+    add binary32 (add binary32 (add binary32 (add binary32 zeroF (getD xs i nan)) (getD xs (i + 2) nan)) (getD xs (i + 4) nan)) (getD xs (i + 6) nan)
+
+-- such a sum for each of the 64 numbers of a block: `accumulate_symbols` takes the symbols from these rows
+unfoldable pub runningSums : List Float → ℕ → List Float
+runningSums samples block = tabulate 64 (λ (i : ℕ). fourFrom samples (64 * block + i))
 
 -- the norms of a row
 unfoldable pub normsOf : List Float → List Float
 normsOf row = tabulate 288 (λ (i : ℕ). normOf (complexAt row i))
 
 -- the bits of both streams in turn
-unfoldable pub bitsOf : Slicer → List Float → List ℕ
-bitsOf slicer row = tabulate 288 (λ (j : ℕ). slicedBit slicer row (j % 2) (j / 2))
+unfoldable pub bitsInTurn : Slicer → List Float → List ℕ
+bitsInTurn slicer row = tabulate 288 (λ (j : ℕ). slicedBit slicer row (j % 2) (j / 2))
 
 -- the bits of stream 0, then those of stream 1
 unfoldable pub apartOf : List ℕ → List ℕ

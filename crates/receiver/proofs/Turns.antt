@@ -18,8 +18,8 @@ use Rattle.place.specs.declared.Slicer.the-variants.{Coherent, Noncoherent}
 use Rattle.search.specs.declared.Reading.{Reading}
 use Rattle.search.specs.declared.Tried.{Tried}
 use Rattle.search.specs.declared.Tried.the-variants.{Pass, Fail}
-use Rattle.search.specs.Kinds.{long}
-use Rattle.search.specs.Trials.{Kind, checked, cleared, given, sixTrials, differ, trials, first, reading}
+use Rattle.search.specs.Kinds.{Kind, long}
+use Rattle.search.specs.Trials.{checked, cleared, given, sixTrials, differ, trials, first, reading}
 use Rattle.trials.specs.Inner.{orTry}
 
 one-by-one : (x1 x2 x3 x4 x5 x6 : Tried) {t1 t2 t3 t4 t5 t6 : Tried}

@@ -1,10 +1,10 @@
--- `words::numbers::joined` meets its contract: the bytes with their weights.
+-- `words::join::joined` meets its contract: the bytes with their weights.
 -- Assumes nothing.
 use native.Mathlib.Omega.{arith}
 use Rattle.words.specs.Words.{littleEndian}
 use borrow.Author.Needs.{needs}
-use Rattle.words.proofs.numbers.joined.Statement.{statement}
-use Rattle.words.proofs.numbers.joined.Tie as tie
+use Rattle.words.proofs.join.joined.Statement.{statement}
+use Rattle.words.proofs.join.joined.Tie as tie
 
 mul-result : tie.Need-mul-result
 mul-result c = search needs

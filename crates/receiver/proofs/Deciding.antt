@@ -4,7 +4,7 @@
 --     best-listed       what is found lies at one of the places
 --     -refused, -done   the answers
 -- Assumes nothing.
-use mathlib.Core.Path.{_≡_, refl, sym, ap, _∙_}
+use mathlib.Core.Path.{_≡_, refl, sym, ap, _∙_, subst}
 use mathlib.Core.Bool.{Bool, true, false, _&&_, cond}
 use mathlib.Core.List.{List}
 use mathlib.Core.Logic.{_≢_, inl, inr}
@@ -34,11 +34,11 @@ use Rattle.search.specs.declared.Answer.{Answer}
 use Rattle.search.specs.Choice.{candidate, candidateAt, best}
 use Rattle.search.specs.Window.{Window}
 use Rattle.search.specs.Kinds.{long}
-use Rattle.search.specs.Seen.{windowOf}
+use Rattle.search.specs.Seen.{row, promptAt, windowOf}
 use Rattle.search.specs.Timed.{promptOf, about, timingAt, indexOf}
 use Rattle.search.specs.Answers.{orNumber, windowNumber, settingsNumber, indexNumber, placeNumber, zero32, noCandidate, refusedAnswer, readOf, readOr, readAt, bestOf, timedAt, answerOf, decodeOf}
 use Rattle.search.proofs.Scanning.{scan-from, survivor-is, not-some}
-use Rattle.receiver.specs.Inner.{seenIn, movesCount, timedIn}
+use Rattle.receiver.specs.Inner.{powerIn, seenIn, movesCount, timedIn}
 use Rattle.receiver.proofs.Prompting.{timing-seen}
 
 -- ---- what a number 0 says
@@ -57,14 +57,6 @@ window-taken samples = go (eqb (length samples) 2310) refl
     go : (b : Bool) → eqb (length samples) 2310 ≡ b → _≡_ {A = ℕ} (cond b 0 2) 0 → length samples ≡ 2310
     go true q e = eqb-true _ _ q
     go false q e = absurd (omega arith)
-
-pub settings-taken : (s : Settings) → settingsNumber s ≡ 0 → s .level ≤ 2
-unfolding settingsNumber
-settings-taken s = go (leb (s .level) 2) (finite (s .threshold) && finite (s .second)) refl
-  where
-    go : (b f : Bool) → leb (s .level) 2 ≡ b → _≡_ {A = ℕ} (cond b (cond f 0 5) 4) 0 → s .level ≤ 2
-    go true f q e = leb-true _ _ q
-    go false f q e = absurd (omega arith)
 
 pub index-taken : (index : ℕ) → indexNumber index ≡ 0 → (128 ≤ index) × (index ≤ 2 ^ 63)
 unfolding indexNumber
@@ -85,20 +77,20 @@ place-taken p = go (listed 31 p)
 
 pub record Taken (samples : List Float) (s : Settings) : Type 0 where
   pub whole : length samples ≡ 2310
-  pub level : s .level ≤ 2
+  pub settings : settingsNumber s ≡ 0
 
 module _ (samples : List Float) {n : ℕ} (z : n ≡ 0) where
   pub best-taken : (s : Settings) → n ≡ orNumber (windowNumber samples) (settingsNumber s) → Taken samples s
   best-taken s e =
       let (a, b) = or-zero _ _ (sym e ∙ z) in
-      record { whole = window-taken samples a; level = settings-taken s b }
+      record { whole = window-taken samples a; settings = b }
 
   pub read-taken : (s : Settings) (p : Place) → n ≡ orNumber (windowNumber samples) (orNumber (settingsNumber s) (placeNumber p))
       → Taken samples s × (listed 31 p ≡ true)
   read-taken s p e =
       let (a, b) = or-zero _ _ (sym e ∙ z) in
       let (c, d) = or-zero _ _ b in
-      (record { whole = window-taken samples a; level = settings-taken s c }, place-taken p d)
+      (record { whole = window-taken samples a; settings = c }, place-taken p d)
 
   pub decode-taken : (s : Settings) (index : ℕ) → n ≡ orNumber (windowNumber samples) (orNumber (settingsNumber s) (indexNumber index))
       → Taken samples s × (128 ≤ index) × (index ≤ 2 ^ 63)
@@ -106,7 +98,7 @@ module _ (samples : List Float) {n : ℕ} (z : n ≡ 0) where
       let (a, b) = or-zero _ _ (sym e ∙ z) in
       let (c, d) = or-zero _ _ b in
       let (l, h) = index-taken index d in
-      (record { whole = window-taken samples a; level = settings-taken s c }, l, h)
+      (record { whole = window-taken samples a; settings = c }, l, h)
 
   pub time-taken : (p : Place) (index : ℕ) → n ≡ orNumber (windowNumber samples) (orNumber (indexNumber index) (placeNumber p))
       → (length samples ≡ 2310) × (listed 31 p ≡ true) × (128 ≤ index) × (index ≤ 2 ^ 63)
@@ -135,6 +127,19 @@ unfolding best long
 best-listed s w e = elim (scan-from (candidateAt long s w) (long .places) none e) [
   | inl q ↦ not-some q
   | inr q ↦ rw (place-of s w (q .0) (q .2)) (member-listed 31 (q .0) (q .1))
+]
+
+power-of : (s : Settings) (w : Window) (p : Place) {a : Candidate} → candidateAt long s w p ≡ some a → a .prompt ≡ w .prompt (a .place) (a .message)
+unfolding candidateAt candidate
+power-of s w p e = let v = survivor-is s w p _ e in subst (λ (c : Candidate). c .prompt ≡ w .prompt (c .place) (c .message)) (v .is) refl
+
+-- what is found has its power at its place
+pub best-power : (s : Settings) (samples : List Float) {a : Candidate} → best long s (windowOf 14 samples) ≡ some a
+    → a .prompt ≡ powerIn (symbolsOf samples) (a .place) (a .message)
+unfolding best windowOf promptAt powerIn row
+best-power s samples e = elim (scan-from (candidateAt long s (windowOf 14 samples)) (long .places) none e) [
+  | inl q ↦ not-some q
+  | inr q ↦ power-of s (windowOf 14 samples) (q .0) (q .2)
 ]
 
 -- ---- timing

@@ -4,6 +4,7 @@ use crate::refusals::best_number;
 use crate::refusals::decode_number;
 use crate::refusals::read_number;
 use crate::refusals::time_number;
+use crate::subsample::power_at;
 use crate::subsample::subsample;
 use crate::window::best_of;
 use crate::window::reading_at;
@@ -24,7 +25,7 @@ ghost use Rattle.place.specs.Step.{sampleStart};
 ghost use Rattle.place.specs.All.{listed};
 ghost use Rattle.search.specs.Timed.{indexOf};
 ghost use Rattle.search.specs.Answers.{refusedAnswer, readAt, bestOf, timedAt, decodeOf};
-ghost use Rattle.receiver.specs.Inner.{timedIn, movesCount};
+ghost use Rattle.receiver.specs.Inner.{powerIn, timedIn, movesCount};
 
 // Zeros, with a number.
 fn refused(number: u32) -> Answer
@@ -59,12 +60,12 @@ fn index_of(given: u64, place: Place, moves: Moves) -> u64
     }
 }
 
-// When a message at one of the places that are searched came.
-fn time_in(symbols: &[f32], place: Place, message: [u8; 14], index: u64) -> Timed
-    requires { ⌜ (length (now symbols) ≡ 2304) × (listed 31 place ≡ true) × (128 ≤ index) × (index ≤ 2 ^ 63) ⌝ }
+// When a message at one of the places that are searched came, with its power there.
+fn time_in(symbols: &[f32], place: Place, message: [u8; 14], power: f32, index: u64) -> Timed
+    requires { ⌜ (length (now symbols) ≡ 2304) × (listed 31 place ≡ true) × (128 ≤ index) × (index ≤ 2 ^ 63) × (power ≡ powerIn (now symbols) place message) ⌝ }
     ensures { λ r. ⌜ r ≡ timedIn (now (symbols .entry)) place message index ⌝ }
 {
-    let t = subsample(symbols, place, message);
+    let t = subsample(symbols, place, message, power);
     let moves = t.moves;
     Timed {
         number: 0,
@@ -110,7 +111,8 @@ pub fn time_message(samples: &[f32], place: Place, message: [u8; 14], index: u64
         };
     }
     let symbols = symbols_of(samples);
-    time_in(&symbols, place, message, index)
+    let power = power_at(&symbols, place, message);
+    time_in(&symbols, place, message, power, index)
 }
 
 // The message of a window, with all that is said of it. Refused: 2, 4, 5, 6; number 1 where there is none.
@@ -131,7 +133,7 @@ pub fn decode(samples: &[f32], s: Settings, index: u64) -> Answer
     let message = c.message;
     let repairs = c.repairs;
     let slicer = c.slicer;
-    let timed = time_in(&symbols, place, message, index);
+    let timed = time_in(&symbols, place, message, c.prompt, index);
     Answer {
         number: 0,
         place,

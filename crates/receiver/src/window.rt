@@ -10,14 +10,13 @@ use search::Read;
 use search::Settings;
 ghost use mathlib.Core.Path.{_≡_};
 ghost use mathlib.Core.Bool.{true};
-ghost use Prim.Native.Nat.{_≤_};
 ghost use lib.ListN.{length};
 ghost use Rattle.kernels.specs.Symbols.{symbolsOf};
 ghost use Rattle.place.specs.All.{listed};
 ghost use Rattle.search.specs.Choice.{candidateAt, best};
 ghost use Rattle.search.specs.Kinds.{long};
 ghost use Rattle.search.specs.Seen.{windowOf};
-ghost use Rattle.search.specs.Answers.{readOf};
+ghost use Rattle.search.specs.Answers.{settingsNumber, readOf};
 
 // The symbols of a window.
 pub fn symbols_of(samples: &[f32]) -> [f32; 2304]
@@ -31,7 +30,7 @@ pub fn symbols_of(samples: &[f32]) -> [f32; 2304]
 
 // The best of all places.
 pub fn best_of(samples: &[f32], symbols: &[f32], s: Settings) -> Read
-    requires { ⌜ (length (now samples) ≡ 2310) × (now symbols ≡ symbolsOf (now samples)) × (s .level ≤ 2) ⌝ }
+    requires { ⌜ (length (now samples) ≡ 2310) × (now symbols ≡ symbolsOf (now samples)) × (settingsNumber s ≡ 0) ⌝ }
     ensures { λ r. ⌜ r ≡ readOf (best long s (windowOf 14 (now (samples .entry)))) ⌝ }
 {
     let mut coherent = [0u8; 144];
@@ -46,7 +45,7 @@ pub fn best_of(samples: &[f32], symbols: &[f32], s: Settings) -> Read
 
 // The surviving reading of one place.
 pub fn reading_at(samples: &[f32], symbols: &[f32], s: Settings, place: Place) -> Read
-    requires { ⌜ (length (now samples) ≡ 2310) × (now symbols ≡ symbolsOf (now samples)) × (listed 31 place ≡ true) × (s .level ≤ 2) ⌝ }
+    requires { ⌜ (length (now samples) ≡ 2310) × (now symbols ≡ symbolsOf (now samples)) × (listed 31 place ≡ true) × (settingsNumber s ≡ 0) ⌝ }
     ensures { λ r. ⌜ r ≡ readOf (candidateAt long s (windowOf 14 (now (samples .entry))) place) ⌝ }
 {
     let mut coherent = [0u8; 144];

@@ -17,7 +17,7 @@ use Rattle.search.specs.Kinds.{long}
 use Rattle.search.specs.Seen.{windowOf}
 use Rattle.search.specs.Answers.{readOf}
 use Rattle.search.proofs.Scanning.{scan-start}
-use Rattle.trials.proofs.Choosing.{chosen-more, chosen-none}
+use Rattle.choice.proofs.Choosing.{chosen-more, chosen-none}
 use Rattle.receiver.proofs.Finding.{ready-sizes, skipped, best-is}
 use Rattle.receiver.proofs.find.find.Statement.{statement}
 use Rattle.receiver.proofs.find.find.Tie as tie
@@ -36,8 +36,8 @@ loop-holds c =
     let s = c .before .before .before .before .before .before .before .args in
     (omega arith, c .nothing .ensures ∙ ap readOf (scan-start (candidateAt long (s .s) (windowOf 14 (s .samples .now))) placeAt))
 
-add-says : tie.Need-add-says Inv-loop μ-loop
-add-says c = let z = ready-sizes _ _ _ _ _ _ (c .before .before .before .before .before .before .before .before .before .pre .0) in omega (arith, z .clear)
+add-i : tie.Need-add-i Inv-loop μ-loop
+add-i c = let z = ready-sizes _ _ _ _ _ _ (c .before .before .before .before .before .before .before .before .before .pre .0) in omega (arith, z .clear)
 
 mul-says : tie.Need-mul-says Inv-loop μ-loop
 mul-says c = let z = ready-sizes _ _ _ _ _ _ (c .before .before .before .before .before .before .before .before .before .pre .0) in omega (arith, z .clear)
@@ -45,8 +45,8 @@ mul-says c = let z = ready-sizes _ _ _ _ _ _ (c .before .before .before .before 
 shared-slice-read-says : tie.Need-shared-slice-read-says Inv-loop μ-loop
 shared-slice-read-says c = let z = ready-sizes _ _ _ _ _ _ (c .before .before .before .before .before .before .before .before .before .before .pre .0) in omega (arith, z .clear)
 
-add-says-2 : tie.Need-add-says-2 Inv-loop μ-loop
-add-says-2 c = let z = ready-sizes _ _ _ _ _ _ (c .before .before .before .before .before .before .before .before .before .before .pre .0) in omega (arith, z .clear)
+add-says : tie.Need-add-says Inv-loop μ-loop
+add-says c = let z = ready-sizes _ _ _ _ _ _ (c .before .before .before .before .before .before .before .before .before .before .pre .0) in omega (arith, z .clear)
 
 mul-says-2 : tie.Need-mul-says-2 Inv-loop μ-loop
 mul-says-2 c = let z = ready-sizes _ _ _ _ _ _ (c .before .before .before .before .before .before .before .before .before .before .pre .0) in omega (arith, z .clear)
@@ -57,13 +57,13 @@ shared-slice-read-says-2 c = let z = ready-sizes _ _ _ _ _ _ (c .before .before 
 says-requires : tie.Need-says-requires Inv-loop μ-loop
 says-requires c κs = search needs
 
-at-requires : tie.Need-at-requires Inv-loop μ-loop
-at-requires c κs = search needs
+place-at-requires : tie.Need-place-at-requires Inv-loop μ-loop
+place-at-requires c κs = search needs
 
 read-at-requires : tie.Need-read-at-requires Inv-loop μ-loop
 read-at-requires c κs =
     let s = c .before .before .before .before .before .before .before .before .before .before .before .before .before .before in
-    (s .pre .0, subst (λ (p : Place). listed 31 p ≡ true) (sym (c .at .ensures)) (listed-at 31 (c .before .before .before .before .before .before .loop .k) (omega (arith, c .before .before .before .before .before .loop-test .taken))), s .pre .1)
+    (s .pre .0, subst (λ (p : Place). listed 31 p ≡ true) (sym (c .place-at .ensures)) (listed-at 31 (c .before .before .before .before .before .before .loop .k) (omega (arith, c .before .before .before .before .before .loop-test .taken))), s .pre .1)
 
 choose-requires : tie.Need-choose-requires Inv-loop μ-loop
 choose-requires c κs = search needs
@@ -102,14 +102,14 @@ find-spec =
     μ-loop
     nothing-requires
     loop-holds
-    add-says
+    add-i
     mul-says
     shared-slice-read-says
-    add-says-2
+    add-says
     mul-says-2
     shared-slice-read-says-2
     says-requires
-    at-requires
+    place-at-requires
     read-at-requires
     choose-requires
     add-k

@@ -1,11 +1,11 @@
--- `hash::bit_errors_of` meets its contract. Assumes nothing.
+-- `receiver::codes::bit_errors_of` meets its contract. Assumes nothing.
 use native.Mathlib.Omega.{arith}
 use lib.Bits.{mask-lt, and-mask}
 use borrow.Author.Needs.{needs}
 use borrow.Author.Tests.{eq-eqb, ne-eqb, le-leb, lt-leb}
 use Rattle.hash.specs.Inner.{repairsOf, foundOf}
-use Rattle.hash.proofs.bit_errors_of.Statement.{statement}
-use Rattle.hash.proofs.bit_errors_of.Tie as tie
+use Rattle.receiver.proofs.codes.bit_errors_of.Statement.{statement}
+use Rattle.receiver.proofs.codes.bit_errors_of.Tie as tie
 
 returns : tie.Need-returns
 unfolding foundOf

@@ -1,6 +1,7 @@
 -- Laws of answers in the rules' words.
 --     told-refused   with a number that is not 0 there are no values
 --     told-done      with number 0 there are
+--     told-number    the number is the one that was told
 --     told-values    the values of an answer with number 0
 -- Assumes nothing.
 use mathlib.Core.Path.{_≡_, refl, ap}
@@ -16,6 +17,10 @@ module _ {A : Type 0} (v : A) where
 
   pub told-done : {n m : ℕ} → n ≡ m → n ≡ 0 → _≡_ {A = Told A} (0, some v) (tell m v)
   told-done e z = rw (← e, z)
+
+  pub told-number : (n : ℕ) → tell n v .0 ≡ n
+  told-number zero = refl
+  told-number (suc n) = refl
 
   pub told-values : (n : ℕ) {x : A} → tell n v ≡ (0, some x) → v ≡ x
   told-values zero e = let s = ap (λ (t : Told A). t .1) e in cc

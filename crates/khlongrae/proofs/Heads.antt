@@ -1,12 +1,11 @@
 -- The exits of a header check, in the order in which they are met.
 -- Assumes nothing.
-use mathlib.Core.Path.{_≡_, refl, sym, ap, _∙_}
+use mathlib.Core.Path.{_≡_, refl, _∙_}
 use mathlib.Core.Bool.{Bool, true, false, cond, _&&_}
 use mathlib.Core.Option.{none}
 use Prim.Native.Nat.{ℕ, _<_, _≤_}
 use lib.Dec.{eqb, ltb}
 use borrow.Author.Tests.{le-ltb, le-leb, lt-leb, ne-eqb}
-use Rattle.lists.specs.Told.{Told}
 use Rattle.annex10.specs.declared.Repairs.{Repairs}
 use Rattle.annex10.specs.declared.Repairs.the-variants.{None, One, Two}
 use Rattle.annex10.specs.Header.{longHeader}
@@ -24,9 +23,9 @@ nor-right : (b : Bool) → (b && false) ≡ false
 nor-right true = refl
 nor-right false = refl
 
-either : (b : Bool) {ρ σ : Repairs} → inside 14 ρ ≡ false → inside 14 σ ≡ false → inside 14 (cond b ρ σ) ≡ false
-either true e f = e
-either false e f = f
+either : (b : Bool) (ρ σ : Repairs) → inside 14 ρ ≡ false → inside 14 σ ≡ false → inside 14 (cond b ρ σ) ≡ false
+either true ρ σ e f = e
+either false ρ σ e f = f
 
 module _ (first count j k : ℕ) {x : FlatHeader} where
   pub count-refused : 2 < count → x ≡ flatHeader (4, none) → x ≡ flatHeader (headerCheck first count j k)
@@ -41,7 +40,7 @@ module _ (first count j k : ℕ) {x : FlatHeader} where
   pub first-refused : count ≤ 2 → (count ≡ 0 → ⊥) → 111 < j → x ≡ flatHeader (8, none) → x ≡ flatHeader (headerCheck first count j k)
   unfolding headerCheck countedRepairs
   first-refused a b h e =
-      e ∙ rw (le-leb _ _ a, ne-eqb _ _ b, outside first (cond (eqb count 1) (One j) (Two j k)) (either (eqb count 1) (le-ltb _ _ h) (rw (le-ltb j 112 h))))
+      e ∙ rw (le-leb _ _ a, ne-eqb _ _ b, outside first (cond (eqb count 1) (One j) (Two j k)) (either (eqb count 1) (One j) (Two j k) (le-ltb _ _ h) (rw (le-ltb j 112 h))))
 
   pub one-checked : count ≡ 1 → x ≡ flatHeader (headerOf 14 longHeader first (One j)) → x ≡ flatHeader (headerCheck first count j k)
   unfolding headerCheck countedRepairs

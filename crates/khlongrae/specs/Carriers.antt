@@ -31,5 +31,5 @@ flatCarrier (n, none) = record { number = n; peak = 0; bin = 0; fraction = zeroF
 
 -- the local maximum: 1 for yes
 abbrev pub flatMaximum : Told Bool → FlatMaximum
-flatMaximum (n, some yes) = record { number = n; yes = asBit yes }
+flatMaximum (n, some t) = record { number = n; yes = asBit t }
 flatMaximum (n, none) = record { number = n; yes = 0 }

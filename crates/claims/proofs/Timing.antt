@@ -14,7 +14,7 @@ use Rattle.timing.specs.declared.Moves.the-variants.{Back, On}
 use Rattle.timing.specs.Subsample.{halves, fractionOf, rest, timingOf}
 use Rattle.timing.proofs.Laws.{reaches, ends-in-range, nan-stays, few-moves}
 use Rattle.timing.proofs.Laws as laws
-use Rattle.search.specs.Choice.{Window}
+use Rattle.search.specs.Window.{Window}
 use Rattle.search.specs.Timed.{promptOf, about, timingAt}
 use Rattle.claims.specs.Audited.{countOf}
 

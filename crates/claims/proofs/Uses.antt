@@ -8,7 +8,7 @@ use Rattle.place.proofs.All.{listed-member, member-listed}
 use Rattle.place.proofs.Cases.{places-many}
 use Rattle.streams.proofs.Reading.{message-length}
 use Rattle.search.specs.declared.Settings.{Settings}
-use Rattle.search.specs.Choice.{Sized}
+use Rattle.search.specs.Window.{Sized}
 use Rattle.search.specs.Kinds.{long, short}
 use Rattle.search.specs.Seen.{bitsAt, windowOf}
 use Rattle.claims.specs.Bits.{Heard}

@@ -20,8 +20,10 @@ use Rattle.search.specs.declared.Settings.{Settings}
 use Rattle.search.specs.declared.Candidate.{Candidate}
 use Rattle.search.specs.declared.Tried.{Tried}
 use Rattle.search.specs.declared.Tried.the-variants.{Pass, Fail}
-use Rattle.search.specs.Trials.{Kind, good, trials}
-use Rattle.search.specs.Choice.{_∈_, Window, candidateAt, best}
+use Rattle.search.specs.Trials.{trials}
+use Rattle.search.specs.Kinds.{Kind, good}
+use Rattle.search.specs.Choice.{candidateAt, best}
+use Rattle.search.specs.Window.{_∈_, Window}
 
 -- ---- the words
 

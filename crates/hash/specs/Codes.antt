@@ -2,29 +2,29 @@
 -- Assumes nothing.
 use mathlib.Core.Bool.{cond}
 use mathlib.Core.List.{List}
-use Prim.Native.Nat.{ℕ, _+_, _*_, _/_, _%_}
-use lib.Dec.{eqb, leb}
+use Prim.Native.Nat.{ℕ, _+_, _*_}
+use lib.Dec.{eqb}
 use lib.ListN.{length, getD}
 use Rattle.lists.specs.From.{tabulate}
-use Rattle.annex10.specs.declared.Repairs.{Repairs}
 use Rattle.annex10.specs.declared.Repairs.the-variants.{None, One, Two}
 use Rattle.annex10.specs.declared.Found.{Found}
 use Rattle.annex10.specs.declared.Found.the-variants.{At, Nothing}
 use Rattle.annex10.specs.Any.{clearingAny}
 
--- the first position and the second, 255 for one that is not there; 65536 where nothing clears
+-- in place of a position that is not there
+abbrev pub absent : ℕ
+absent = 255
+
+-- the first position, then the second, a byte for each
+abbrev pub pair : ℕ → ℕ → ℕ
+pair j k = j * 256 + k
+
+-- what clears a remainder as a number; where nothing does, a number above every pair
 abbrev pub codeOf : Found → ℕ
 codeOf Nothing = 65536
-codeOf (At None) = 65535
-codeOf (At (One j)) = j * 256 + 255
-codeOf (At (Two j k)) = j * 256 + k
-
--- and back
-unfoldable pub repairsOf : ℕ → Repairs
-repairsOf c = cond (eqb (c / 256) 255) None (cond (eqb (c % 256) 255) (One (c / 256)) (Two (c / 256) (c % 256)))
-
-unfoldable pub foundOf : ℕ → Found
-foundOf c = cond (leb 65536 c) Nothing (At (repairsOf c))
+codeOf (At None) = pair absent absent
+codeOf (At (One j)) = pair j absent
+codeOf (At (Two j k)) = pair j k
 
 -- the code of each remainder of a 14-byte message; as many codes as remainders, else 3
 unfoldable pub codesOf : List ℕ → List ℕ

@@ -1,2 +1,2 @@
-pub mod Rule
 pub mod Codes
+pub mod Inner

@@ -8,7 +8,8 @@ use crate::slots::SLOTS;
 use annex10::Found;
 use annex10::Repairs;
 ghost use mathlib.Core.Path.{_≡_};
-ghost use Rattle.hash.specs.Codes.{foundOf, codesInto};
+ghost use Rattle.hash.specs.Codes.{codesInto};
+ghost use Rattle.hash.specs.Inner.{foundOf};
 
 // At most two positions for each of many remainders, as codes. Refused: 3 where there are not as many codes as remainders.
 pub fn bit_errors_from_crc24s(crcs: &[u32], codes: &mut [u32]) -> u32

@@ -3,7 +3,7 @@ ghost use mathlib.Core.Path.{_≡_};
 ghost use lib.ListN.{length};
 ghost use Rattle.annex10.specs.Any.{clearingAny};
 ghost use Rattle.hash.specs.Codes.{codeOf, codesOf};
-ghost use Rattle.hash.specs.Rule.{HashTable};
+ghost use Rattle.hash.specs.Inner.{HashTable};
 
 // The code of one remainder.
 fn code_in(displacements: &[u8], slots: &[u32], crc: u32) -> u32

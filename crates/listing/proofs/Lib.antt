@@ -3,3 +3,8 @@ pub mod Digits
 pub mod Lengths
 pub mod Avr
 pub mod Worked
+pub mod Split
+pub mod Visible
+pub mod Back
+pub mod Determines
+pub mod Typed

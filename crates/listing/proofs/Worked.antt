@@ -1,12 +1,8 @@
--- The definitions give the worked listing, a NaN's bits and the text of two repairs; and the digits of a number, read back, are the number.
+-- The definitions give the worked listing, a NaN's bits and the text of two repairs.
 -- Assumes nothing.
 use mathlib.Core.Path.{_≡_, refl}
-use mathlib.Core.Bool.{Bool, true, false, cond}
-use mathlib.Core.List.{List, [], _∷_, _++_, foldl, foldl-append}
-use Prim.Native.Nat.{ℕ, zero, suc, _+_, _-_, _*_, _/_, _%_, _^_, _<_}
-use native.Mathlib.Nat.{pow-succ'}
-use native.Mathlib.Omega.{arith}
-use lib.Dec.{ltb}
+use mathlib.Core.Bool.{false}
+use mathlib.Core.List.{[], _∷_}
 use lib.Ieee.{binary32, ofBits, toBits, nan, inf}
 use Rattle.annex10.specs.declared.Repairs.the-variants.{None, Two}
 use Rattle.place.specs.declared.Slicer.the-variants.{Coherent}
@@ -53,21 +49,3 @@ nan-text = refl
 two-text : repairsText (Two 3 110) ≡ 0x32 ∷ 0x3A ∷ 0x33 ∷ 0x2C ∷ 0x31 ∷ 0x31 ∷ 0x30 ∷ []
 unfolding repairsText decimal decimalIn
 two-text = refl
-
--- the number that digits write, the first highest
-abbrev written : List ℕ → ℕ
-written = foldl (λ (v d : ℕ). v * 10 + (d - 48)) 0
-
-digits-back : (places n : ℕ) → n < 10 ^ places → written (decimalIn places n) ≡ n
-unfolding decimalIn
-digits-back zero n h = omega arith
-digits-back (suc places) n h = go (ltb n 10) refl (digits-back places (n / 10) (omega (arith, pow-succ' 10 places)))
-  where
-    go : (b : Bool) → ltb n 10 ≡ b → written (decimalIn places (n / 10)) ≡ n / 10
-        → written (cond b ((48 + n) ∷ []) (decimalIn places (n / 10) ++ ((48 + n % 10) ∷ []))) ≡ n
-    go true e q = omega arith
-    go false e q = rw (foldl-append (λ (v d : ℕ). v * 10 + (d - 48)) 0 (decimalIn places (n / 10)) ((48 + n % 10) ∷ [])) (omega arith)
-
-pub decimal-back : (n : ℕ) → n < 2 ^ 64 → written (decimal n) ≡ n
-unfolding decimal
-decimal-back n h = digits-back 20 n (omega arith)

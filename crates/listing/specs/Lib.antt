@@ -1,4 +1,4 @@
 pub mod Fields
 pub mod Lines
-pub mod Lent
+pub mod Determines
 pub mod Inner

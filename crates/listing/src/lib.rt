@@ -1,6 +1,5 @@
 // The lines of a listing, as bytes.
 mod fields;
-pub mod lent;
 pub mod lines;
 mod put;
 

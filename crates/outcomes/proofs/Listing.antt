@@ -1,30 +1,11 @@
 -- Each public contract of listing fixes its outcome. Written by tools/outcomes; the prover trusts nothing of it.
 -- Assumes nothing.
 use mathlib.Core.Path.{refl}
-use denote.Ref.{now}
 use Rattle.outcomes.specs.Outcome.{Fixed, answer}
 use Rattle.outcomes.proofs.Law.{fixes, answer-set}
-use Rattle.listing.proofs.lent.write_head_line as lent-write-head-line
-use Rattle.listing.proofs.lent.write_refused_line as lent-write-refused-line
-use Rattle.listing.proofs.lent.write_window_line as lent-write-window-line
 use Rattle.listing.proofs.lines.head_line as lines-head-line
 use Rattle.listing.proofs.lines.refused_line as lines-refused-line
 use Rattle.listing.proofs.lines.window_line as lines-window-line
-
-pub lent-write-head-line-fixed : Fixed lent-write-head-line.ended (answer _) (λ M 𝓤 H. lent-write-head-line.clauses 𝓤 H) (λ M 𝓤 H. lent-write-head-line.spec 𝓤 H)
-lent-write-head-line-fixed =
-    fixes lent-write-head-line.ended _ (answer-set lent-write-head-line.ended) refl (λ κs. refl)
-    (λ κs a r e. (r, now (e .1 .0))) (λ κs a y. (y .0, (tt, (y .1, tt)))) (λ κs a r ws. refl)
-
-pub lent-write-refused-line-fixed : Fixed lent-write-refused-line.ended (answer _) (λ M 𝓤 H. lent-write-refused-line.clauses 𝓤 H) (λ M 𝓤 H. lent-write-refused-line.spec 𝓤 H)
-lent-write-refused-line-fixed =
-    fixes lent-write-refused-line.ended _ (answer-set lent-write-refused-line.ended) refl (λ κs. refl)
-    (λ κs a r e. (r, now (e .1 .0))) (λ κs a y. (y .0, (tt, (y .1, tt)))) (λ κs a r ws. refl)
-
-pub lent-write-window-line-fixed : Fixed lent-write-window-line.ended (answer _) (λ M 𝓤 H. lent-write-window-line.clauses 𝓤 H) (λ M 𝓤 H. lent-write-window-line.spec 𝓤 H)
-lent-write-window-line-fixed =
-    fixes lent-write-window-line.ended _ (answer-set lent-write-window-line.ended) refl (λ κs. refl)
-    (λ κs a r e. (r, now (e .1 .1 .0))) (λ κs a y. (y .0, (tt, (tt, (y .1, tt))))) (λ κs a r ws. refl)
 
 pub lines-head-line-fixed : Fixed lines-head-line.ended (answer _) (λ M 𝓤 H. lines-head-line.clauses 𝓤 H) (λ M 𝓤 H. lines-head-line.spec 𝓤 H)
 lines-head-line-fixed =

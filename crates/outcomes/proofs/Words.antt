@@ -7,7 +7,6 @@ use Rattle.outcomes.proofs.Law.{fixes, answer-set}
 use Rattle.words.proofs.float.float_of as float-float-of
 use Rattle.words.proofs.float.bits_of as float-bits-of
 use Rattle.words.proofs.float.window_floats as float-window-floats
-use Rattle.words.proofs.numbers.joined as numbers-joined
 use Rattle.words.proofs.numbers.word as numbers-word
 use Rattle.words.proofs.numbers.long as numbers-long
 
@@ -25,11 +24,6 @@ pub float-window-floats-fixed : Fixed float-window-floats.ended (answer _) (λ M
 float-window-floats-fixed =
     fixes float-window-floats.ended _ (answer-set float-window-floats.ended) refl (λ κs. refl)
     (λ κs a r e. (r, now (e .1 .0))) (λ κs a y. (y .0, (tt, (y .1, tt)))) (λ κs a r ws. refl)
-
-pub numbers-joined-fixed : Fixed numbers-joined.ended (answer _) (λ M 𝓤 H. numbers-joined.clauses 𝓤 H) (λ M 𝓤 H. numbers-joined.spec 𝓤 H)
-numbers-joined-fixed =
-    fixes numbers-joined.ended _ (answer-set numbers-joined.ended) refl (λ κs. refl)
-    (λ κs a r e. r) (λ κs a y. (y, (tt, (tt, (tt, (tt, tt)))))) (λ κs a r ws. refl)
 
 pub numbers-word-fixed : Fixed numbers-word.ended (answer _) (λ M 𝓤 H. numbers-word.clauses 𝓤 H) (λ M 𝓤 H. numbers-word.spec 𝓤 H)
 numbers-word-fixed =

@@ -26,12 +26,13 @@ at-number n b k y e hk hy =
     let h : n % 2 ≡ y = omega arith in
     rw (f, g, h)
 
-pub numberOf : Place → ℕ
-numberOf p = 8 * (p .bit - 1) + 2 * p .phase + p .symbol
+-- its number in the list
+pub rankOf : Place → ℕ
+rankOf p = 8 * (p .bit - 1) + 2 * p .phase + p .symbol
 
-pub number-is : (p : Place) → 1 ≤ p .bit → p .phase ≤ 3 → p .symbol ≤ 1 → placeAt (numberOf p) ≡ p
-unfolding numberOf
-number-is p hb hk hy = at-number (8 * (p .bit - 1) + 2 * p .phase + p .symbol) (p .bit) (p .phase) (p .symbol) (omega arith) hk hy
+pub rank-is : (p : Place) → 1 ≤ p .bit → p .phase ≤ 3 → p .symbol ≤ 1 → placeAt (rankOf p) ≡ p
+unfolding rankOf
+rank-is p hb hk hy = at-number (8 * (p .bit - 1) + 2 * p .phase + p .symbol) (p .bit) (p .phase) (p .symbol) (omega arith) hk hy
 
 -- the eight places of a bit offset
 abbrev eight : ℕ → List Place
@@ -71,12 +72,12 @@ unfolding placeAt
 listed-at m k h = listed-is m (placeAt k) (record { from = omega arith; to = omega arith; phase = omega arith; symbol = omega arith })
 
 pub listed-member : (m : ℕ) (p : Place) → listed m p ≡ true → List·Memᴰ p (allPlaces m)
-unfolding numberOf
+unfolding rankOf
 listed-member m p e =
     let l = listed-gives m p e in
-    let h : numberOf p < 8 * m = omega arith in
-    subst (λ (q : Place). List·Memᴰ q (allPlaces m)) (number-is p (l .from) (l .phase) (l .symbol))
-    (subst (λ (ps : List Place). List·Memᴰ (placeAt (numberOf p)) ps) (counted m) (member-of placeAt (8 * m) (numberOf p) h))
+    let h : rankOf p < 8 * m = omega arith in
+    subst (λ (q : Place). List·Memᴰ q (allPlaces m)) (rank-is p (l .from) (l .phase) (l .symbol))
+    (subst (λ (ps : List Place). List·Memᴰ (placeAt (rankOf p)) ps) (counted m) (member-of placeAt (8 * m) (rankOf p) h))
 
 pub member-listed : (m : ℕ) (p : Place) → List·Memᴰ p (allPlaces m) → listed m p ≡ true
 member-listed m p h =

@@ -11,8 +11,9 @@ use Prim.Native.Nat.{ℕ, _+_, _-_, _*_, _/_, _%_, _<_, _≤_}
 use native.Mathlib.Omega.{arith}
 use lib.Dec.{ltb}
 use borrow.Author.Tests.{lt-ltb, le-ltb, ltb-true}
+use Rattle.lists.specs.Told.{done, refused}
+use Rattle.lists.proofs.Telling.{same-values, not-done}
 use Rattle.place.specs.declared.Place.{Place}
-use Rattle.place.specs.declared.Stepped.the-variants.{To, Refused}
 use Rattle.place.specs.Step.{sampleStart, lastSymbol, within, startingAt, earlierOf, laterOf}
 use Rattle.place.specs.All.{listed}
 use Rattle.place.proofs.Within.{Within, within-gives, within-is, listed-gives}
@@ -42,36 +43,36 @@ unfolding startingAt
 starting-within n s h = record { phase = omega arith; symbol = omega arith; start = omega arith }
 
 module _ (n : ℕ) (p : Place) where
-  pub refused-earlier : within n p ≡ false → earlierOf n p ≡ Refused 7
+  pub refused-earlier : within n p ≡ false → earlierOf n p ≡ refused 7
   unfolding earlierOf
   refused-earlier e = rw e
 
-  pub refused-later : within n p ≡ false → laterOf n p ≡ Refused 7
+  pub refused-later : within n p ≡ false → laterOf n p ≡ refused 7
   unfolding laterOf
   refused-later e = rw e
 
-  pub earlier-to : Within n p → 0 < sampleStart p → earlierOf n p ≡ To (startingAt (sampleStart p - 1))
+  pub earlier-to : Within n p → 0 < sampleStart p → earlierOf n p ≡ done (startingAt (sampleStart p - 1))
   unfolding earlierOf
   earlier-to w h = rw (within-is n p w, lt-ltb 0 (sampleStart p) h)
 
-  pub earlier-end : Within n p → sampleStart p ≡ 0 → earlierOf n p ≡ Refused 7
+  pub earlier-end : Within n p → sampleStart p ≡ 0 → earlierOf n p ≡ refused 7
   unfolding earlierOf
   earlier-end w e = rw (within-is n p w, le-ltb 0 (sampleStart p) (omega arith))
 
-  pub later-to : Within n p → sampleStart p < 4 * lastSymbol n + 3 → laterOf n p ≡ To (startingAt (sampleStart p + 1))
+  pub later-to : Within n p → sampleStart p < 4 * lastSymbol n + 3 → laterOf n p ≡ done (startingAt (sampleStart p + 1))
   unfolding laterOf
   later-to w h = rw (within-is n p w, lt-ltb _ _ h)
 
-  pub later-end : Within n p → 4 * lastSymbol n + 3 ≤ sampleStart p → laterOf n p ≡ Refused 7
+  pub later-end : Within n p → 4 * lastSymbol n + 3 ≤ sampleStart p → laterOf n p ≡ refused 7
   unfolding laterOf
   later-end w h = rw (within-is n p w, le-ltb _ _ h)
 
 -- a neighbour, by the sample that it starts with
-pub earlier-by : (n : ℕ) (p q : Place) → Within n p → 0 < sampleStart p → q .phase ≤ 3 → q .symbol ≤ 1 → sampleStart q + 1 ≡ sampleStart p → To q ≡ earlierOf n p
-earlier-by n p q w h hk hy e = sym (earlier-to n p w h ∙ ap To (starting-is (sampleStart p - 1) hk hy (omega arith)))
+pub earlier-by : (n : ℕ) (p q : Place) → Within n p → 0 < sampleStart p → q .phase ≤ 3 → q .symbol ≤ 1 → sampleStart q + 1 ≡ sampleStart p → done q ≡ earlierOf n p
+earlier-by n p q w h hk hy e = sym (earlier-to n p w h ∙ ap done (starting-is (sampleStart p - 1) hk hy (omega arith)))
 
-pub later-by : (n : ℕ) (p q : Place) → Within n p → sampleStart p < 4 * lastSymbol n + 3 → q .phase ≤ 3 → q .symbol ≤ 1 → sampleStart q ≡ sampleStart p + 1 → To q ≡ laterOf n p
-later-by n p q w h hk hy e = sym (later-to n p w h ∙ ap To (starting-is (sampleStart p + 1) hk hy (sym e)))
+pub later-by : (n : ℕ) (p q : Place) → Within n p → sampleStart p < 4 * lastSymbol n + 3 → q .phase ≤ 3 → q .symbol ≤ 1 → sampleStart q ≡ sampleStart p + 1 → done q ≡ laterOf n p
+later-by n p q w h hk hy e = sym (later-to n p w h ∙ ap done (starting-is (sampleStart p + 1) hk hy (sym e)))
 
 -- what a step that was not refused says
 pub record Stood (n : ℕ) (p q : Place) (s : ℕ) (P : Type 0) : Type 0 where
@@ -79,59 +80,53 @@ pub record Stood (n : ℕ) (p q : Place) (s : ℕ) (P : Type 0) : Type 0 where
   pub room : P
   pub is : q ≡ startingAt s
 
-same-place : {q r : Place} → To q ≡ To r → r ≡ q
-same-place e = cc
-
-no-refused : {q : Place} {k : ℕ} → Refused k ≡ To q → ⊥
-no-refused e = let z : _≡_ {A = ℕ} 0 1 = cc in omega arith
-
-pub later-stood : (n : ℕ) (p q : Place) → laterOf n p ≡ To q → Stood n p q (sampleStart p + 1) (sampleStart p < 4 * lastSymbol n + 3)
+pub later-stood : (n : ℕ) (p q : Place) → laterOf n p ≡ done q → Stood n p q (sampleStart p + 1) (sampleStart p < 4 * lastSymbol n + 3)
 unfolding laterOf
 later-stood n p q = go (within n p) (ltb (sampleStart p) (4 * lastSymbol n + 3)) refl refl
   where
     go : (a b : Bool) → within n p ≡ a → ltb (sampleStart p) (4 * lastSymbol n + 3) ≡ b
-        → cond a (cond b (To (startingAt (sampleStart p + 1))) (Refused 7)) (Refused 7) ≡ To q
+        → cond a (cond b (done (startingAt (sampleStart p + 1))) (refused 7)) (refused 7) ≡ done q
         → Stood n p q (sampleStart p + 1) (sampleStart p < 4 * lastSymbol n + 3)
-    go false b e f g = absurd (no-refused g)
-    go true false e f g = absurd (no-refused g)
-    go true true e f g = record { within = within-gives n p e; room = ltb-true _ _ f; is = same-place g }
+    go false b e f g = absurd (not-done g)
+    go true false e f g = absurd (not-done g)
+    go true true e f g = record { within = within-gives n p e; room = ltb-true _ _ f; is = sym (same-values g) }
 
-pub earlier-stood : (n : ℕ) (p q : Place) → earlierOf n p ≡ To q → Stood n p q (sampleStart p - 1) (0 < sampleStart p)
+pub earlier-stood : (n : ℕ) (p q : Place) → earlierOf n p ≡ done q → Stood n p q (sampleStart p - 1) (0 < sampleStart p)
 unfolding earlierOf
 earlier-stood n p q = go (within n p) (ltb 0 (sampleStart p)) refl refl
   where
     go : (a b : Bool) → within n p ≡ a → ltb 0 (sampleStart p) ≡ b
-        → cond a (cond b (To (startingAt (sampleStart p - 1))) (Refused 7)) (Refused 7) ≡ To q
+        → cond a (cond b (done (startingAt (sampleStart p - 1))) (refused 7)) (refused 7) ≡ done q
         → Stood n p q (sampleStart p - 1) (0 < sampleStart p)
-    go false b e f g = absurd (no-refused g)
-    go true false e f g = absurd (no-refused g)
-    go true true e f g = record { within = within-gives n p e; room = ltb-true _ _ f; is = same-place g }
+    go false b e f g = absurd (not-done g)
+    go true false e f g = absurd (not-done g)
+    go true true e f g = record { within = within-gives n p e; room = ltb-true _ _ f; is = sym (same-values g) }
 
-pub later-start : (n : ℕ) (p q : Place) → laterOf n p ≡ To q → sampleStart q ≡ sampleStart p + 1
+pub later-start : (n : ℕ) (p q : Place) → laterOf n p ≡ done q → sampleStart q ≡ sampleStart p + 1
 later-start n p q e = let s = later-stood n p q e in ap sampleStart (s .is) ∙ start-of (sampleStart p + 1)
 
-pub earlier-start : (n : ℕ) (p q : Place) → earlierOf n p ≡ To q → sampleStart q + 1 ≡ sampleStart p
+pub earlier-start : (n : ℕ) (p q : Place) → earlierOf n p ≡ done q → sampleStart q + 1 ≡ sampleStart p
 earlier-start n p q e =
     let s = earlier-stood n p q e in
     let h : sampleStart q ≡ sampleStart p - 1 = ap sampleStart (s .is) ∙ start-of (sampleStart p - 1) in
     let r : 0 < sampleStart p = s .room in
     omega arith
 
-pub earlier-later : (n : ℕ) (p q : Place) → laterOf n p ≡ To q → earlierOf n q ≡ To p
+pub earlier-later : (n : ℕ) (p q : Place) → laterOf n p ≡ done q → earlierOf n q ≡ done p
 earlier-later n p q e =
     let s = later-stood n p q e in
     let h = later-start n p q e in
     let w : Within n q = rw (s .is) (starting-within n (sampleStart p + 1) (omega (arith, s .room))) in
     let b : sampleStart q - 1 ≡ sampleStart p = omega arith in
-    earlier-to n q w (omega arith) ∙ ap (λ (k : ℕ). To (startingAt k)) b ∙ ap To (own-start p (s .within .phase) (s .within .symbol))
+    earlier-to n q w (omega arith) ∙ ap (λ (k : ℕ). done (startingAt k)) b ∙ ap done (own-start p (s .within .phase) (s .within .symbol))
 
-pub later-earlier : (n : ℕ) (p q : Place) → earlierOf n p ≡ To q → laterOf n q ≡ To p
+pub later-earlier : (n : ℕ) (p q : Place) → earlierOf n p ≡ done q → laterOf n q ≡ done p
 later-earlier n p q e =
     let s = earlier-stood n p q e in
     let h = earlier-start n p q e in
     let v = s .within in
     let w : Within n q = rw (s .is) (starting-within n (sampleStart p - 1) (omega arith)) in
-    later-to n q w (omega arith) ∙ ap (λ (k : ℕ). To (startingAt k)) h ∙ ap To (own-start p (v .phase) (v .symbol))
+    later-to n q w (omega arith) ∙ ap (λ (k : ℕ). done (startingAt k)) h ∙ ap done (own-start p (v .phase) (v .symbol))
 
 -- ---- the places that are searched: bit offsets 1 to 143 - 8 * n
 module _ (n : ℕ) (p : Place) (few : n ≤ 17) (h : listed (143 - 8 * n) p ≡ true) where
@@ -148,10 +143,10 @@ module _ (n : ℕ) (p : Place) (few : n ≤ 17) (h : listed (143 - 8 * n) p ≡ 
 
   -- the places that timing looks at: one and two clock phases either way
   pub record Neighbours : Type 0 where
-    pub back : earlierOf n p ≡ To (startingAt (sampleStart p - 1))
-    pub back-twice : earlierOf n (startingAt (sampleStart p - 1)) ≡ To (startingAt (sampleStart p - 2))
-    pub on : laterOf n p ≡ To (startingAt (sampleStart p + 1))
-    pub on-twice : laterOf n (startingAt (sampleStart p + 1)) ≡ To (startingAt (sampleStart p + 2))
+    pub back : earlierOf n p ≡ done (startingAt (sampleStart p - 1))
+    pub back-twice : earlierOf n (startingAt (sampleStart p - 1)) ≡ done (startingAt (sampleStart p - 2))
+    pub on : laterOf n p ≡ done (startingAt (sampleStart p + 1))
+    pub on-twice : laterOf n (startingAt (sampleStart p + 1)) ≡ done (startingAt (sampleStart p + 2))
 
   pub neighbours : Neighbours
   neighbours =
@@ -163,11 +158,11 @@ module _ (n : ℕ) (p : Place) (few : n ≤ 17) (h : listed (143 - 8 * n) p ≡ 
         back = earlier-to n p listed-within (omega arith);
         back-twice =
             earlier-to n (startingAt (s - 1)) (starting-within n (s - 1) (omega arith)) (omega arith)
-            ∙ ap (λ (k : ℕ). To (startingAt k)) (less-two s (sampleStart (startingAt (s - 1))) b);
+            ∙ ap (λ (k : ℕ). done (startingAt k)) (less-two s (sampleStart (startingAt (s - 1))) b);
         on = later-to n p listed-within (omega arith);
         on-twice =
             later-to n (startingAt (s + 1)) (starting-within n (s + 1) (omega arith)) (omega arith)
-            ∙ ap (λ (k : ℕ). To (startingAt k)) (more-two s (sampleStart (startingAt (s + 1))) f);
+            ∙ ap (λ (k : ℕ). done (startingAt k)) (more-two s (sampleStart (startingAt (s + 1))) f);
       }
     where
       less-two : (s t : ℕ) → t ≡ s - 1 → t - 1 ≡ s - 2

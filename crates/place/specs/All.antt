@@ -1,10 +1,11 @@
 -- The places that are searched: bit offsets 1 to m, 31 for messages of 14 bytes and 87 for those of 7.
 -- Assumes nothing.
-use mathlib.Core.Bool.{Bool, _&&_}
+use mathlib.Core.Bool.{Bool, _&&_, cond}
 use mathlib.Core.List.{List, [], _∷_, flatMap}
-use Prim.Native.Nat.{ℕ, _+_, _/_, _%_}
-use lib.Dec.{leb}
+use Prim.Native.Nat.{ℕ, _+_, _*_, _/_, _%_}
+use lib.Dec.{leb, ltb}
 use Rattle.lists.specs.From.{from}
+use Rattle.lists.specs.Told.{Told, done, refused}
 use Rattle.place.specs.declared.Place.{Place}
 
 -- bit offset 1 to m, clock phase 0 to 3, symbol offset 0 or 1
@@ -23,3 +24,7 @@ allPlaces m =
 -- number k of them, counted from 0
 unfoldable pub placeAt : ℕ → Place
 placeAt k = record { bit = 1 + k / 8; phase = k / 2 % 4; symbol = k % 2 }
+
+-- the same if there are so many: 8 for each bit offset
+unfoldable pub listedAt : ℕ → ℕ → Told Place
+listedAt m k = cond (ltb k (8 * m)) (done (placeAt k)) (refused 7)

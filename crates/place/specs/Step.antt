@@ -4,6 +4,7 @@
 use mathlib.Core.Bool.{Bool, _&&_, cond}
 use Prim.Native.Nat.{ℕ, _+_, _-_, _*_, _/_, _%_}
 use lib.Dec.{leb, ltb}
+use Rattle.lists.specs.Told.{Told, done, refused}
 use Rattle.place.specs.declared.Place.{Place}
 use Rattle.place.specs.declared.Stepped.{Stepped}
 use Rattle.place.specs.declared.Stepped.the-variants.{To, Refused}
@@ -28,14 +29,19 @@ within n p = leb (p .phase) 3 && leb (p .symbol) 1 && leb (symbolStart p) (lastS
 unfoldable pub startingAt : ℕ → Place
 startingAt s = record { bit = s / 8; phase = s % 4; symbol = s / 4 % 2 }
 
+-- a step in numbers and values
+abbrev pub steppedTold : Stepped → Told Place
+steppedTold (To p) = done p
+steppedTold (Refused n) = refused n
+
 -- one sample earlier; there is none before sample 0
-unfoldable pub earlierOf : ℕ → Place → Stepped
+unfoldable pub earlierOf : ℕ → Place → Told Place
 earlierOf n p =
-    cond (within n p) (cond (ltb 0 (sampleStart p)) (To (startingAt (sampleStart p - 1))) (Refused 7)) (Refused 7)
+    cond (within n p) (cond (ltb 0 (sampleStart p)) (done (startingAt (sampleStart p - 1))) (refused 7)) (refused 7)
 
 -- one sample later; there is none after clock phase 3 of the last symbol
-unfoldable pub laterOf : ℕ → Place → Stepped
+unfoldable pub laterOf : ℕ → Place → Told Place
 laterOf n p =
     cond (within n p)
-    (cond (ltb (sampleStart p) (4 * lastSymbol n + 3)) (To (startingAt (sampleStart p + 1))) (Refused 7))
-    (Refused 7)
+    (cond (ltb (sampleStart p) (4 * lastSymbol n + 3)) (done (startingAt (sampleStart p + 1))) (refused 7))
+    (refused 7)

@@ -1,7 +1,7 @@
 // Where a reading lies in a window, and who read its bits.
 ghost use mathlib.Core.Path.{_≡_};
-ghost use Rattle.place.specs.Step.{within, earlierOf, laterOf};
-ghost use Rattle.place.specs.All.{listed, placeAt};
+ghost use Rattle.place.specs.Step.{within, steppedTold, earlierOf, laterOf};
+ghost use Rattle.place.specs.All.{listed, listedAt};
 
 // Who made bits of symbols: by real part, or by norm.
 pub enum Slicer {
@@ -32,8 +32,15 @@ impl Place {
 
     pub const START_MAX: usize = 64;
 
+    // How many clock phases there are; how many places of one clock phase of a bit offset, and of one bit offset.
+    pub const PHASES: usize = Place::PHASE_MAX + 1;
+
+    pub const PER_PHASE: usize = Place::SYMBOL_MAX + 1;
+
+    pub const PER_BIT: usize = Place::PHASES * Place::PER_PHASE;
+
     // How many places are searched, and the first and the last of them.
-    pub const COUNT: usize = 248;
+    pub const COUNT: usize = (Place::LAST.bit - Place::FIRST.bit + 1) * Place::PER_BIT;
 
     pub const FIRST: Place = Place {
         bit: 1,
@@ -47,27 +54,18 @@ impl Place {
         symbol: 1,
     };
 
-    pub fn first() -> Place
-        ensures { λ r. ⌜ r ≡ placeAt 0 ⌝ }
+    // Number k of the places that are searched, counted from 0. Refused: 7 from COUNT on.
+    pub fn at(k: usize) -> Stepped
+        ensures { λ r. ⌜ steppedTold r ≡ listedAt 31 k ⌝ }
     {
-        Place::FIRST
-    }
-
-    pub fn last() -> Place
-        ensures { λ r. ⌜ r ≡ placeAt 247 ⌝ }
-    {
-        Place::LAST
-    }
-
-    // The place number k of the search, counted from 0; k is below COUNT there.
-    pub fn at(k: usize) -> Place
-        ensures { λ r. ⌜ r ≡ placeAt k ⌝ }
-    {
-        Place {
-            bit: 1 + k / 8,
-            phase: k / 2 % 4,
-            symbol: k % 2,
+        if k >= Place::COUNT {
+            return Stepped::Refused(7);
         }
+        Stepped::To(Place {
+            bit: Place::FIRST.bit + k / Place::PER_BIT,
+            phase: k / Place::PER_PHASE % Place::PHASES,
+            symbol: k % Place::PER_PHASE,
+        })
     }
 
     // One of the 248 that are searched.
@@ -81,10 +79,10 @@ impl Place {
         if bit > Place::LAST.bit {
             return false;
         }
-        if self.phase > Place::PHASE_MAX {
+        if self.phase > Place::LAST.phase {
             return false;
         }
-        self.symbol <= Place::SYMBOL_MAX
+        self.symbol <= Place::LAST.symbol
     }
 
     // The bit offset is tested first, so that the start cannot wrap.
@@ -107,7 +105,7 @@ impl Place {
 
     // One clock phase back.
     pub fn earlier(self) -> Stepped
-        ensures { λ r. ⌜ r ≡ earlierOf 14 self ⌝ }
+        ensures { λ r. ⌜ steppedTold r ≡ earlierOf 14 self ⌝ }
     {
         let bit = self.bit;
         let phase = self.phase;
@@ -141,7 +139,7 @@ impl Place {
 
     // One clock phase on.
     pub fn later(self) -> Stepped
-        ensures { λ r. ⌜ r ≡ laterOf 14 self ⌝ }
+        ensures { λ r. ⌜ steppedTold r ≡ laterOf 14 self ⌝ }
     {
         let bit = self.bit;
         let phase = self.phase;

@@ -31,7 +31,8 @@ use Rattle.search.specs.declared.Candidate.{Candidate}
 use Rattle.search.specs.declared.Read.{Read}
 use Rattle.search.specs.declared.Timed.{Timed}
 use Rattle.search.specs.declared.Answer.{Answer}
-use Rattle.search.specs.Choice.{Window, candidate, candidateAt, best}
+use Rattle.search.specs.Choice.{candidate, candidateAt, best}
+use Rattle.search.specs.Window.{Window}
 use Rattle.search.specs.Kinds.{long}
 use Rattle.search.specs.Seen.{windowOf}
 use Rattle.search.specs.Timed.{promptOf, about, timingAt, indexOf}

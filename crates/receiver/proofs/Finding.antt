@@ -34,11 +34,12 @@ use Rattle.search.specs.declared.Tried.the-variants.{Pass, Fail}
 use Rattle.search.specs.declared.Candidate.{Candidate}
 use Rattle.search.specs.declared.Read.{Read}
 use Rattle.search.specs.Trials.{reading}
-use Rattle.search.specs.Choice.{Window, candidate, dropped, survivor, candidateAt, scan, best}
+use Rattle.search.specs.Choice.{candidate, dropped, survivor, candidateAt, scan, best}
+use Rattle.search.specs.Window.{Window}
 use Rattle.search.specs.Kinds.{long}
 use Rattle.search.specs.Seen.{row, stream, bitsAt, promptAt, noiseAt, windowOf}
 use Rattle.search.specs.Answers.{readOf}
-use Rattle.hash.specs.Codes.{foundOf}
+use Rattle.hash.specs.Inner.{foundOf}
 use Rattle.trials.proofs.Turns.{none-read}
 use Rattle.receiver.specs.Inner.{rowsOf, Ready, Streams, Told, seenAt}
 use Rattle.receiver.proofs.Clearing.{numbered, both-length, codes-length, first-found, second-found, told-there, silent, both-silent}

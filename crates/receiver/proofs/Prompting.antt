@@ -22,7 +22,7 @@ use Rattle.timing.specs.Subsample.{fractionOf, timingOf}
 use Rattle.timing.specs.declared.Offset.{Offset}
 use Rattle.timing.specs.declared.Offset.the-variants.{Same, Earlier, Later}
 use Rattle.search.specs.declared.Prompt.{Prompt}
-use Rattle.search.specs.Choice.{Window}
+use Rattle.search.specs.Window.{Window}
 use Rattle.search.specs.Timed.{lookAt, over, promptOf, about, timingAt}
 use Rattle.search.specs.Seen.{windowOf, promptAt, row}
 use Rattle.kernels.specs.Symbols.{symbolsOf}

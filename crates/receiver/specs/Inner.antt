@@ -27,7 +27,7 @@ use Rattle.timing.specs.declared.Moves.{Moves}
 use Rattle.timing.specs.declared.Moves.the-variants.{Back, On}
 use Rattle.search.specs.declared.Prompt.{Prompt}
 use Rattle.search.specs.declared.Timed.{Timed}
-use Rattle.search.specs.Choice.{Window}
+use Rattle.search.specs.Window.{Window}
 use Rattle.search.specs.Timed.{timingAt, indexOf}
 use Rattle.kernels.specs.Slices.{streamsOf}
 

@@ -15,7 +15,7 @@ use Rattle.annex10.specs.declared.Found.the-variants.{At, Nothing}
 use Rattle.annex10.specs.Repair.{clearing}
 use Rattle.annex10.proofs.Repairing.{Clears, looked-up, not-found}
 use Rattle.annex10.proofs.Unique.{apart-14}
-use Rattle.repairs.specs.Rule.{remainderAt, Ascending, Placed, SingleTable, DoubleTable}
+use Rattle.repairs.specs.Inner.{remainderAt, Ascending, Placed, SingleTable, DoubleTable}
 
 pub ascends : (t : List ℕ) → ((p q : ℕ) → p < q → q < length t → remainderAt t p < remainderAt t q) → Ascending t
 ascends t rises p q pq h =

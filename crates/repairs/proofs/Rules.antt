@@ -16,7 +16,7 @@ use Rattle.lists.proofs.Tree.{Tree, grow, find, In, here, there, is-there}
 use Rattle.annex10.specs.declared.Repairs.the-variants.{One, Two}
 use Rattle.annex10.specs.Repair.{pattern}
 use Rattle.annex10.proofs.Singles.{singles, S, single-is, two-is}
-use Rattle.repairs.specs.Rule.{remainderAt, SingleTable, DoubleTable}
+use Rattle.repairs.specs.Inner.{remainderAt, SingleTable, DoubleTable}
 
 -- ---- the tests; ss are the remainders of the single positions
 

@@ -3,7 +3,7 @@ use annex10::Found;
 use annex10::Repairs;
 ghost use mathlib.Core.Path.{_≡_};
 ghost use Rattle.annex10.specs.Repair.{clearing};
-ghost use Rattle.repairs.specs.Rule.{Ascending, Placed, SingleTable, DoubleTable};
+ghost use Rattle.repairs.specs.Inner.{Ascending, Placed, SingleTable, DoubleTable};
 
 // The first place of a table whose remainder is not below crc.
 fn place(table: &[u32], crc: u32) -> usize

@@ -1,13 +1,11 @@
 -- The search: which readings survive, which of two is the better, and the best of all places.
 -- Assumes nothing.
-use mathlib.Core.Path.{_≡_}
 use mathlib.Core.Bool.{Bool, true, false, _&&_, _||_, cond}
-use mathlib.Core.List.{List, foldl, List·Memᴰ}
+use mathlib.Core.List.{List, foldl}
 use mathlib.Core.Option.{Option, none, some}
 use Prim.Native.Nat.{ℕ, min}
 use lib.Dec.{ltb, leb, eqb}
-use lib.ListN.{length}
-use lib.Ieee.{Float, lt}
+use lib.Ieee.{lt}
 use Rattle.annex10.specs.Repair.{count, repaired}
 use Rattle.place.specs.declared.Place.{Place}
 use Rattle.place.specs.declared.Slicer.{Slicer}
@@ -17,25 +15,9 @@ use Rattle.search.specs.declared.Reading.{Reading}
 use Rattle.search.specs.declared.Tried.{Tried}
 use Rattle.search.specs.declared.Tried.the-variants.{Pass, Fail}
 use Rattle.search.specs.declared.Candidate.{Candidate}
-use Rattle.search.specs.Trials.{Kind, reading}
-
-infix 4 _∈_
-abbrev pub _∈_ : Place → List Place → Type 0
-p ∈ places = List·Memᴰ p places
-
--- what a search sees of a window
-pub record Window : Type 0 where
-  -- the bits of a slicer at a place
-  pub bits : Slicer → Place → List ℕ
-  -- in how many of them the two slicers differ
-  pub distance : Place → ℕ
-  -- prompt power and cn0 of a message at a place
-  pub prompt : Place → List ℕ → Float
-  pub cn0 : Place → List ℕ → Float
-
--- the bits of a place are as many as a message has
-pub record Sized (kind : Kind) (w : Window) : Type 0 where
-  pub size : (slicer : Slicer) (p : Place) → length (w .bits slicer p) ≡ kind .bytes
+use Rattle.search.specs.Kinds.{Kind}
+use Rattle.search.specs.Window.{Window}
+use Rattle.search.specs.Trials.{reading}
 
 -- a reading at a place, with its message, power and cn0
 unfoldable pub candidate : Window → Place → Reading → Candidate

@@ -1,8 +1,27 @@
--- The search for long messages and that for short ones.
+-- The two kinds of message that are searched for.
 -- Assumes nothing.
+use mathlib.Core.Bool.{Bool}
+use mathlib.Core.List.{List}
+use Prim.Native.Nat.{ℕ}
+use lib.ListN.{getD}
 use Rattle.annex10.specs.Header.{longHeader, shortHeader}
+use Rattle.place.specs.declared.Place.{Place}
 use Rattle.place.specs.All.{allPlaces}
-use Rattle.search.specs.Trials.{Kind}
+
+-- what the search for long messages and that for short ones differ in
+pub record Kind : Type 0 where
+  -- the bytes of a message: 14, 7
+  pub bytes : ℕ
+  -- the places, in the order of the scan: 248, 696
+  pub places : List Place
+  -- the most repairs: 2, 1
+  pub most : ℕ
+  -- the first bytes that are taken
+  pub header : ℕ → Bool
+
+-- the header of a message is one of those that are taken
+abbrev pub good : Kind → List ℕ → Bool
+good kind message = kind .header (getD message 0 0)
 
 -- extended squitters: 14 bytes, bit offsets 1 to 31, at most two repairs
 unfoldable pub long : Kind

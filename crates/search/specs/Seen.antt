@@ -14,7 +14,7 @@ use Rattle.kernels.specs.Powers.{powerOf, noiseOf}
 use Rattle.streams.specs.Streams.{messageAt}
 use Rattle.streams.specs.Distances.{differing}
 use Rattle.cn0.specs.Estimate.{cn0Of}
-use Rattle.search.specs.Choice.{Window}
+use Rattle.search.specs.Window.{Window}
 
 -- the symbols of a clock phase: a row of 288
 unfoldable pub row : List Float → ℕ → List Float

@@ -13,7 +13,7 @@ use Rattle.timing.specs.declared.Moves.the-variants.{Back, On}
 use Rattle.timing.specs.declared.Timing.{Timing}
 use Rattle.timing.specs.Subsample.{fractionOf, timingOf}
 use Rattle.search.specs.declared.Prompt.{Prompt}
-use Rattle.search.specs.Choice.{Window}
+use Rattle.search.specs.Window.{Window}
 
 -- a message is looked at where it starts with sample s
 unfoldable pub lookAt : Window → List ℕ → ℕ → Offset → Prompt

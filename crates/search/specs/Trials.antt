@@ -4,30 +4,15 @@ use mathlib.Core.Bool.{Bool, true, false, not, cond}
 use mathlib.Core.List.{List, [], _∷_}
 use Prim.Native.Nat.{ℕ}
 use lib.Dec.{leb, eqb}
-use lib.ListN.{getD}
 use Rattle.annex10.specs.Remainder.{remainder}
 use Rattle.annex10.specs.Repair.{repaired, clearing}
 use Rattle.annex10.specs.declared.Found.{Found}
 use Rattle.annex10.specs.declared.Found.the-variants.{At, Nothing}
-use Rattle.place.specs.declared.Place.{Place}
 use Rattle.place.specs.declared.Slicer.{Slicer}
 use Rattle.place.specs.declared.Slicer.the-variants.{Coherent, Noncoherent}
 use Rattle.search.specs.declared.Tried.{Tried}
 use Rattle.search.specs.declared.Tried.the-variants.{Pass, Fail}
-
--- what the search for long messages and that for short ones differ in
-pub record Kind : Type 0 where
-  -- the bytes of a message: 14, 7
-  pub bytes : ℕ
-  -- the places, in the order of the scan: 248, 696
-  pub places : List Place
-  -- the most repairs: 2, 1
-  pub most : ℕ
-  -- the first bytes that are taken
-  pub header : ℕ → Bool
-
-abbrev pub good : Kind → List ℕ → Bool
-good kind message = kind .header (getD message 0 0)
+use Rattle.search.specs.Kinds.{Kind, good}
 
 -- the positions are repaired; the trial passes if the repaired header is good
 unfoldable pub checked : Kind → ℕ → Slicer → List ℕ → Found → Tried

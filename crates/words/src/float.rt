@@ -1,5 +1,5 @@
 // Floats by their bits. Every NaN counts as one: it is read from each of its patterns and written as 7FC00000.
-use crate::numbers::joined;
+use crate::join::joined;
 ghost use mathlib.Core.Path.{_≡_};
 ghost use Prim.Native.Nat.{_+_, _*_, _≤_};
 ghost use lib.ListN.{length};

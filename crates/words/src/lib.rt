@@ -1,3 +1,4 @@
 // Numbers and floats as bytes, the lowest byte first.
 pub mod float;
+mod join;
 pub mod numbers;

@@ -7,7 +7,8 @@ use mathlib.Core.Path.{ap}
 use Prim.Native.Nat.{ℕ}
 use Rattle.lists.proofs.Tree.{grow}
 use Rattle.annex10.proofs.Singles.{singles, singlesFrom}
-use Rattle.hash.specs.Codes.{repairsOf, codesInto}
+use Rattle.hash.specs.Codes.{codesInto}
+use Rattle.hash.specs.Inner.{repairsOf}
 use Rattle.hash.proofs.Placed.{read, stands}
 use Rattle.hash.proofs.Hashing.{fits, owned, slot-right, near, owns, single-owns, pair-owns, pairs-own, all-own, hash-rule, hash-law}
 use Rattle.hash.proofs.bit_errors_from_crc24s.Statement.{statement}

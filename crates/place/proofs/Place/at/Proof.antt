@@ -1,17 +1,21 @@
 -- `place::Place::at` meets its contract: the three numbers are those of the definition.
 -- Assumes nothing.
-use mathlib.Core.Path.{refl}
-use Rattle.place.specs.All.{placeAt}
+use borrow.Author.Tests.{lt-ltb, le-ltb}
+use Rattle.place.specs.All.{placeAt, listedAt}
 use borrow.Author.Needs.{needs}
 use Rattle.place.proofs.Place.at.Statement.{statement}
 use Rattle.place.proofs.Place.at.Tie as tie
 
-add-t3 : tie.Need-add-t3
-add-t3 c = search needs
-
 returns : tie.Need-returns
-unfolding placeAt
-returns c = refl
+unfolding listedAt
+returns c = rw (le-ltb _ _ (c .if1 .taken))
+
+add-t5 : tie.Need-add-t5
+add-t5 c = search needs
+
+returns-2 : tie.Need-returns-2
+unfolding placeAt listedAt
+returns-2 c = rw (lt-ltb _ _ (c .before .if1 .left))
 
 pub at-spec : {M : Type 1} → statement M
-at-spec = tie.close (tie.spec add-t3 returns)
+at-spec = tie.close (tie.spec returns add-t5 returns-2)

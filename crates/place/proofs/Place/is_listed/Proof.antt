@@ -15,11 +15,16 @@ returns-2 : tie.Need-returns-2
 returns-2 c = sym (listed-not 31 (c .before .before .before .before .args .self) (λ (l : Listed 31 (c .before .before .before .before .args .self)). omega arith))
 
 returns-3 : tie.Need-returns-3
-returns-3 c = sym (listed-not 31 (c .before .before .before .before .before .before .args .self) (λ (l : Listed 31 (c .before .before .before .before .before .before .args .self)). omega arith))
+returns-3 c = sym (listed-not 31 (c .before .before .before .before .before .before .before .args .self) (λ (l : Listed 31 (c .before .before .before .before .before .before .before .args .self)). omega arith))
 
 returns-4 : tie.Need-returns-4
 unfolding listed
-returns-4 c = rw (le-leb _ _ (c .before .before .before .before .before .if1 .left), le-leb _ _ (c .before .before .before .if2 .left), le-leb _ _ (c .before .if3 .left))
+returns-4 c =
+    rw (
+      le-leb _ _ (c .before .before .before .before .before .before .before .if1 .left),
+      le-leb _ _ (c .before .before .before .before .before .if2 .left),
+      le-leb _ _ (c .before .before .if3 .left),
+    )
 
 pub is-listed-spec : {M : Type 1} → statement M
 is-listed-spec = tie.close (tie.spec returns returns-2 returns-3 returns-4)

@@ -4,7 +4,7 @@ use Prim.Native.Nat.{ℕ, _+_, _-_, _/_, _≤_, _<_}
 use native.Mathlib.Nat.{le-trans, lt-of-le-of-lt}
 use native.Mathlib.Omega.{arith}
 use lib.ListN.{length}
-use Rattle.repairs.specs.Rule.{remainderAt}
+use Rattle.repairs.specs.Inner.{remainderAt}
 use Rattle.repairs.proofs.search.place.Statement.{statement}
 use Rattle.repairs.proofs.search.place.Tie as tie
 

@@ -1,0 +1,3 @@
+pub mod Choosing
+pub mod Filtering
+pub mod Told

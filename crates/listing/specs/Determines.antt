@@ -1,0 +1,44 @@
+-- FROM A LINE BACK TO ITS ANSWER: two windows with the same line have the same answer, in all that a line says.
+-- Assumes nothing.
+use mathlib.Core.Path.{_≡_}
+use Prim.Native.Nat.{ℕ, _^_, _<_, _≤_}
+use lib.Dec.{T}
+use lib.Ieee.{binary32, fits}
+use lib.ListN.{getD}
+use Rattle.annex10.specs.declared.Repairs.{Repairs}
+use Rattle.annex10.specs.declared.Repairs.the-variants.{None, One, Two}
+use Rattle.search.specs.declared.Answer.{Answer}
+use Rattle.listing.specs.Lines.{windowLine}
+
+-- each position is a byte
+abbrev pub InBytes : Repairs → Type 0
+InBytes None = Unit
+InBytes (One j) = j < 256
+InBytes (Two j k) = (j < 256) × (k < 256)
+
+-- What every value of the type `Answer` has, by the types that its fields are declared with: u32, u8, u64, f32 (proofs/Typed.antt).
+pub record Stored (a : Answer) : Type 0 where
+  pub number : a .number < 2 ^ 32
+  pub message : (k : ℕ) → getD (a .message) k 0 < 256
+  pub repairs : InBytes (a .repairs)
+  pub cn0 : T (fits binary32 (a .cn0))
+  pub index : a .index < 2 ^ 64
+  pub fraction : T (fits binary32 (a .fraction))
+
+-- What is the same of window k with the answer a and window l with the answer b.
+pub record SameSaid (k l : ℕ) (a b : Answer) : Type 0 where
+  -- whether there is a message (0), nothing (1) or a refusal, and which
+  pub number : a .number ≡ b .number
+  -- which window it is, where it is not refused
+  pub window : a .number ≤ 1 → k ≡ l
+  -- of a message, all but its place
+  pub message : a .number ≡ 0 → a .message ≡ b .message
+  pub repairs : a .number ≡ 0 → a .repairs ≡ b .repairs
+  pub slicer : a .number ≡ 0 → a .slicer ≡ b .slicer
+  pub index : a .number ≡ 0 → a .index ≡ b .index
+  pub fraction : a .number ≡ 0 → a .fraction ≡ b .fraction
+  pub cn0 : a .number ≡ 0 → a .cn0 ≡ b .cn0
+
+pub record LineDetermines : Type 0 where
+  pub same : (k l : ℕ) (a b : Answer) → k < 2 ^ 64 → l < 2 ^ 64 → Stored a → Stored b
+      → windowLine k a ≡ windowLine l b → SameSaid k l a b

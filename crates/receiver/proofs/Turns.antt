@@ -1,0 +1,95 @@
+-- Six trials one after the other are the reading.
+--     in-turn         a trial counts only where none before it passed: the last holds the first that passed
+--     reading-by      with what clears the messages' own remainders the reading is that of the search
+--     none-read       where nothing clears either, it fails
+-- Assumes nothing.
+use mathlib.Core.Path.{_≡_, refl, sym, ap, _∙_}
+use mathlib.Core.Bool.{Bool, true, false, _&&_, not}
+use mathlib.Core.List.{List, [], _∷_}
+use Prim.Native.Nat.{ℕ}
+use lib.Dec.{leb, eqb}
+use Rattle.annex10.specs.Remainder.{remainder}
+use Rattle.annex10.specs.Any.{clearingAny, only}
+use Rattle.annex10.specs.declared.Found.{Found}
+use Rattle.annex10.specs.declared.Found.the-variants.{Nothing}
+use Rattle.annex10.proofs.Any.{only-any}
+use Rattle.annex10.proofs.Unique.{apart-14}
+use Rattle.place.specs.declared.Slicer.the-variants.{Coherent, Noncoherent}
+use Rattle.search.specs.declared.Reading.{Reading}
+use Rattle.search.specs.declared.Tried.{Tried}
+use Rattle.search.specs.declared.Tried.the-variants.{Pass, Fail}
+use Rattle.search.specs.Kinds.{Kind, long}
+use Rattle.search.specs.Trials.{checked, cleared, given, sixTrials, differ, trials, first, reading}
+use Rattle.trials.specs.Inner.{orTry}
+
+one-by-one : (x1 x2 x3 x4 x5 x6 : Tried) {t1 t2 t3 t4 t5 t6 : Tried}
+    → t1 ≡ orTry Fail x1 → t2 ≡ orTry t1 x2 → t3 ≡ orTry t2 x3 → t4 ≡ orTry t3 x4 → t5 ≡ orTry t4 x5 → t6 ≡ orTry t5 x6
+    → t6 ≡ first (x1 ∷ x2 ∷ x3 ∷ x4 ∷ x5 ∷ x6 ∷ [])
+unfolding orTry
+one-by-one x1 x2 x3 x4 x5 x6 e1 e2 e3 e4 e5 e6 = e6 ∙ rw (e5, e4, e3, e2, e1) (go x1 x2 x3 x4 x5 x6)
+  where
+    go : (x1 x2 x3 x4 x5 x6 : Tried) → orTry (orTry (orTry (orTry (orTry (orTry Fail x1) x2) x3) x4) x5) x6 ≡ first (x1 ∷ x2 ∷ x3 ∷ x4 ∷ x5 ∷ x6 ∷ [])
+    go (Pass r) x2 x3 x4 x5 x6 = refl
+    go Fail (Pass r) x3 x4 x5 x6 = refl
+    go Fail Fail (Pass r) x4 x5 x6 = refl
+    go Fail Fail Fail (Pass r) x5 x6 = refl
+    go Fail Fail Fail Fail (Pass r) x6 = refl
+    go Fail Fail Fail Fail Fail (Pass r) = refl
+    go Fail Fail Fail Fail Fail Fail = refl
+
+-- what passed before stands
+pub stays : (t x : Tried) {r : Reading} → t ≡ Pass r → t ≡ orTry t x
+unfolding orTry
+stays t x e = e ∙ sym (ap (λ (u : Tried). orTry u x) e)
+
+given-true : (t : Tried) → given true t ≡ t
+unfolding given
+given-true t = refl
+
+given-fail : (a : Bool) → given a Fail ≡ Fail
+unfolding given
+given-fail true = refl
+given-fail false = refl
+
+given-both : (a b : Bool) (t : Tried) → given (a && b) t ≡ given a (given b t)
+unfolding given
+given-both true b t = refl
+given-both false b t = refl
+
+-- four and six: whether trials 4 and 6 are made
+module _ (kind : Kind) (level : ℕ) (coherent noncoherent : List ℕ) (c d : ℕ → Found) (apart : Bool) where
+  pub in-turn : {four six : Bool} {t1 t2 t3 t4 t5 t6 : Tried} → four ≡ (leb 1 level && apart) → six ≡ (leb 2 level && apart)
+      → t1 ≡ orTry Fail (given true (checked kind 1 Coherent coherent (c 0)))
+      → t2 ≡ orTry t1 (given true (checked kind 2 Noncoherent noncoherent (d 0)))
+      → t3 ≡ orTry t2 (given (leb 1 level) (checked kind 3 Coherent coherent (c 1)))
+      → t4 ≡ orTry t3 (given four (checked kind 4 Noncoherent noncoherent (d 1)))
+      → t5 ≡ orTry t4 (given (leb 2 level) (checked kind 5 Coherent coherent (c 2)))
+      → t6 ≡ orTry t5 (given six (checked kind 6 Noncoherent noncoherent (d 2)))
+      → t6 ≡ first (sixTrials kind level coherent noncoherent c d apart)
+  unfolding sixTrials
+  in-turn {four} {six} f s e1 e2 e3 e4 e5 e6 =
+      let p : given four (checked kind 4 Noncoherent noncoherent (d 1)) ≡ given (leb 1 level) (given apart (checked kind 4 Noncoherent noncoherent (d 1)))
+      = rw f (given-both (leb 1 level) apart _) in
+      let q : given six (checked kind 6 Noncoherent noncoherent (d 2)) ≡ given (leb 2 level) (given apart (checked kind 6 Noncoherent noncoherent (d 2)))
+      = rw s (given-both (leb 2 level) apart _) in
+      one-by-one _ _ _ _ _ _ (e1 ∙ ap (orTry Fail) (given-true _)) (e2 ∙ ap (orTry _) (given-true _)) e3 (e4 ∙ ap (orTry _) p) e5 (e6 ∙ ap (orTry _) q)
+
+-- with what clears the messages' own remainders the reading is that of the search
+module _ (level : ℕ) (coherent noncoherent : List ℕ) where
+  pub reading-by : {c d : Found} {apart : Bool} → c ≡ clearingAny 14 (remainder coherent) → d ≡ clearingAny 14 (remainder noncoherent)
+      → apart ≡ not (eqb (remainder coherent) (remainder noncoherent))
+      → first (sixTrials long level coherent noncoherent (only c) (only d) apart) ≡ reading long level coherent noncoherent
+  unfolding reading trials sixTrials cleared differ long
+  reading-by p q s =
+      let x = only-any 14 (remainder coherent) apart-14 in
+      let y = only-any 14 (remainder noncoherent) apart-14 in
+      rw (p, q, s, x 0, x 1, x 2, y 0, y 1, y 2)
+
+  -- where nothing clears either, all fail
+  pub none-read : clearingAny 14 (remainder coherent) ≡ Nothing → clearingAny 14 (remainder noncoherent) ≡ Nothing
+      → reading long level coherent noncoherent ≡ Fail
+  unfolding sixTrials checked
+  none-read p q = sym (reading-by (sym p) (sym q) refl) ∙ go (leb 1 level) (leb 2 level) (not (eqb (remainder coherent) (remainder noncoherent)))
+    where
+      go : (a b e : Bool) → first (Fail ∷ Fail ∷ given a Fail ∷ given a (given e Fail) ∷ given b Fail ∷ given b (given e Fail) ∷ []) ≡ Fail
+      go a b e = rw (given-fail a, given-fail b, given-fail e, given-fail a, given-fail b)

@@ -1,3 +1,0 @@
-pub mod Tries
-pub mod Chosen
-pub mod Inner

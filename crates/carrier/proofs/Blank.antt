@@ -4,7 +4,6 @@
 use mathlib.Core.Path.{_≡_, refl, sym, _∙_}
 use mathlib.Core.List.{List}
 use mathlib.Core.Bool.{Bool, true, false, not, cond, _&&_, _||_, true≢false}
-use mathlib.Core.Option.{some}
 use Prim.Native.Nat.{ℕ, zero, suc, _+_, _-_, _*_, _/_, _<_, _≤_}
 use native.Mathlib.Nat.{mul-zero, zero-mul, mul-pos}
 use native.Mathlib.Omega.{arith}
@@ -16,6 +15,7 @@ use lib.Ieee.{Float, nan, inf, fin, binary32, unlike, up, down, below, level, of
 use lib.Ieee.Bits.{is-true}
 use lib.Ieee.Exact.{HasValue, round-exact}
 use lib.Ieee.Fits.{down-pos}
+use Rattle.lists.specs.Told.{done}
 use Rattle.floats.specs.Zero.{zeroF}
 use Rattle.math.specs.Parabola.{parabola}
 use Rattle.floats.proofs.Order.{zero-of}
@@ -98,7 +98,7 @@ module _ (s : List Float) (zeros : (j : ℕ) → j < length s → binAt s j ≡ 
       either false = refl
 
   pub blank : (m w : ℕ) (threshold : Float) → carrierNumber (length s) m w threshold ≡ 0
-      → carrierOf s m w threshold ≡ (0, some (true, length s / 2 - m, zeroF, zeroF, zeroF))
+      → carrierOf s m w threshold ≡ done (true, length s / 2 - m, zeroF, zeroF, zeroF)
   unfolding peakOf floorOf binFraction
   blank m w threshold e =
       let t = carrier-taken (length s) m w threshold refl e in

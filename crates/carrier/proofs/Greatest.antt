@@ -8,7 +8,6 @@ use mathlib.Core.Path.{_≡_, refl, sym, ap, _∙_, subst}
 use mathlib.Core.Logic.{_⊎_, inl, inr}
 use mathlib.Core.List.{List}
 use mathlib.Core.Bool.{Bool, true, false, cond}
-use mathlib.Core.Option.{some}
 use Prim.Native.Nat.{ℕ, zero, suc, _+_, _-_, _*_, _/_, _<_, _≤_}
 use native.Mathlib.Nat.{add-zero, add-suc, eq-or-lt-of-le, le-of-suc-le-suc}
 use native.Mathlib.Omega.{arith}
@@ -18,7 +17,7 @@ use lib.Dec.{T, ltb}
 use lib.ListN.{length}
 use lib.Ieee.{Float, lt, le, isNan}
 use lib.Ieee.Bits.{is-true, is-false}
-use Rattle.lists.specs.Told.{Told, tell}
+use Rattle.lists.specs.Told.{Told, done, tell}
 use Rattle.lists.proofs.Telling.{told-number, told-values}
 use Rattle.floats.specs.Zero.{zeroF}
 use Rattle.carrier.specs.declared.search.Best.{Best}
@@ -125,7 +124,7 @@ module _ (s : List Float) (first : ℕ) where
 
 -- ---- the answer
 
-taken : (k : ℕ) (b : Best) (bin : ℕ) (value : Float) → tell {A = ℕ × Float} k (b .bin, b .value) ≡ (0, some (bin, value))
+taken : (k : ℕ) (b : Best) (bin : ℕ) (value : Float) → tell {A = ℕ × Float} k (b .bin, b .value) ≡ done (bin, value)
     → (k ≡ 0) × (b ≡ record { bin = bin; value = value })
 taken k b bin value e =
     let v = told-values (b .bin, b .value) k e in (
@@ -139,7 +138,7 @@ record Opened (s : List Float) (m bin : ℕ) (value : Float) : Type 0 where
   stands : (record { bin = bin; value = value } ≡ start s (length s / 2 - m))
       ⊎ Leads s (length s / 2 - m) (length s / 2 + m + 1) (record { bin = bin; value = value })
 
-opened : (s : List Float) (m bin : ℕ) (value : Float) → searchOf s m ≡ (0, some (bin, value)) → Opened s m bin value
+opened : (s : List Float) (m bin : ℕ) (value : Float) → searchOf s m ≡ done (bin, value) → Opened s m bin value
 unfolding searchOf peakOf
 opened s m bin value e =
     let r = taken (searchNumber (length s) m) (peakOf s m) bin value e in
@@ -152,7 +151,7 @@ opened s m bin value e =
       stands = rw (ends, r .1) at (leads s at (2 * m + 1));
     }
 
-module _ (s : List Float) (m bin : ℕ) (value : Float) (answer : searchOf s m ≡ (0, some (bin, value))) where
+module _ (s : List Float) (m bin : ℕ) (value : Float) (answer : searchOf s m ≡ done (bin, value)) where
   -- some bin that is searched is above 0.0
   pub first-greatest : (j : ℕ) → InSearch s m j → lt zeroF (binAt s j) ≡ true → FirstGreatest s m bin value
   first-greatest j i g =

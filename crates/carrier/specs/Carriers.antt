@@ -2,11 +2,10 @@
 -- Assumes nothing.
 use mathlib.Core.List.{List}
 use mathlib.Core.Bool.{Bool, true, false, cond}
-use mathlib.Core.Option.{none, some}
 use Prim.Native.Nat.{ℕ, _+_, _-_}
 use lib.ListN.{length}
 use lib.Ieee.{Float, binary32, mul, le}
-use Rattle.lists.specs.Told.{Told, tell}
+use Rattle.lists.specs.Told.{Told, done, refused, tell}
 use Rattle.floats.specs.Zero.{zeroF}
 use Rattle.math.specs.Parabola.{parabola}
 use Rattle.carrier.specs.declared.metric.Carrier.{Carrier}
@@ -21,9 +20,9 @@ CarrierValues = Bool × ℕ × Float × Float × Float
 
 -- an answer: its number, and the values with number 0
 abbrev pub carrierTold : Carrier → Told CarrierValues
-carrierTold (Peak bin fraction value floor) = (0, some (true, bin, fraction, value, floor))
-carrierTold (Weak value floor) = (0, some (false, 0, zeroF, value, floor))
-carrierTold (Refused n) = (n, none)
+carrierTold (Peak bin fraction value floor) = done (true, bin, fraction, value, floor)
+carrierTold (Weak value floor) = done (false, 0, zeroF, value, floor)
+carrierTold (Refused n) = refused n
 
 -- the parabola over the bins before, at and after a bin, not held to a range
 unfoldable pub binFraction : List Float → ℕ → Float

@@ -2,12 +2,11 @@
 -- Assumes nothing.
 use mathlib.Core.List.{List}
 use mathlib.Core.Bool.{Bool, cond, _||_}
-use mathlib.Core.Option.{none, some}
 use Prim.Native.Nat.{ℕ, zero, suc, _+_}
 use lib.Dec.{ltb}
 use lib.ListN.{length}
 use lib.Ieee.{Float, binary32, add}
-use Rattle.lists.specs.Told.{Told, tell}
+use Rattle.lists.specs.Told.{Told, done, refused, tell}
 use Rattle.floats.specs.Zero.{zeroF}
 use Rattle.carrier.specs.declared.notch.Floor.{Floor}
 use Rattle.carrier.specs.declared.notch.Floor.the-variants.{Is, Refused}
@@ -32,8 +31,8 @@ floorOf s bin w = floorTo s bin w (length s)
 
 -- an answer: its number, and the floor with number 0
 abbrev pub floorTold : Floor → Told Float
-floorTold (Is p) = (0, some p)
-floorTold (Refused n) = (n, none)
+floorTold (Is p) = done p
+floorTold (Refused n) = refused n
 
 -- what `carrier_notched_power` answers
 unfoldable pub floorAt : List Float → ℕ → ℕ → Told Float

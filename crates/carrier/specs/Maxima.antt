@@ -2,19 +2,18 @@
 -- Assumes nothing.
 use mathlib.Core.List.{List}
 use mathlib.Core.Bool.{Bool, true, false, not, cond, _||_}
-use mathlib.Core.Option.{none, some}
 use lib.Dec.{eqb}
 use lib.ListN.{getD, length}
 use lib.Ieee.{Float, nan, le, lt}
-use Rattle.lists.specs.Told.{Told, tell}
+use Rattle.lists.specs.Told.{Told, done, refused, tell}
 use Rattle.carrier.specs.declared.maximum.LocalMaximum.{LocalMaximum}
 use Rattle.carrier.specs.declared.maximum.LocalMaximum.the-variants.{Yes, No, Refused}
 
 -- an answer: its number, and with number 0 whether it is a maximum
 abbrev pub maximumTold : LocalMaximum → Told Bool
-maximumTold Yes = (0, some true)
-maximumTold No = (0, some false)
-maximumTold (Refused n) = (n, none)
+maximumTold Yes = done true
+maximumTold No = done false
+maximumTold (Refused n) = refused n
 
 -- one of the two before is as great as the third
 unfoldable pub earlierAsGreat : List Float → Bool

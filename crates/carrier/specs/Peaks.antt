@@ -2,11 +2,10 @@
 -- Assumes nothing.
 use mathlib.Core.List.{List}
 use mathlib.Core.Bool.{cond}
-use mathlib.Core.Option.{none, some}
 use Prim.Native.Nat.{ℕ, zero, suc, _+_, _-_, _*_, _/_}
 use lib.ListN.{getD, length}
 use lib.Ieee.{Float, nan, lt}
-use Rattle.lists.specs.Told.{Told, tell}
+use Rattle.lists.specs.Told.{Told, done, refused, tell}
 use Rattle.floats.specs.Zero.{zeroF}
 use Rattle.carrier.specs.declared.search.Best.{Best}
 use Rattle.carrier.specs.declared.search.Search.{Search}
@@ -32,8 +31,8 @@ peakOf s m = peakFrom s (length s / 2 - m) (2 * m + 1)
 
 -- an answer: its number, and bin and value with number 0
 abbrev pub searchTold : Search → Told (ℕ × Float)
-searchTold (Found bin value) = (0, some (bin, value))
-searchTold (Refused n) = (n, none)
+searchTold (Found bin value) = done (bin, value)
+searchTold (Refused n) = refused n
 
 -- what `long_fft_max_search` answers
 unfoldable pub searchOf : List Float → ℕ → Told (ℕ × Float)

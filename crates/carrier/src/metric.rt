@@ -4,9 +4,9 @@ use crate::bins::strongest;
 use crate::refusal::carrier_number;
 use math::parabolic_interpolation;
 ghost use mathlib.Core.Path.{_≡_};
-ghost use mathlib.Core.Option.{some};
 ghost use Prim.Native.Nat.{_+_, _/_, _<_, _≤_};
 ghost use lib.ListN.{length};
+ghost use Rattle.lists.specs.Told.{done};
 ghost use Rattle.carrier.specs.Carriers.{carrierTold, binFraction, measured, carrierOf};
 
 pub enum Carrier {
@@ -33,7 +33,7 @@ fn bin_fraction(spectrum: &[f32], bin: usize) -> f32
 
 fn measure(spectrum: &[f32], search: usize, notch: usize, threshold: f32) -> Carrier
     requires { ⌜ (search + 2 ≤ length (now spectrum) / 2) × (notch < length (now spectrum)) × (length (now spectrum) ≤ 4096) ⌝ }
-    ensures { λ r. ⌜ carrierTold r ≡ (0, some (measured (now (spectrum .entry)) search notch threshold)) ⌝ }
+    ensures { λ r. ⌜ carrierTold r ≡ done (measured (now (spectrum .entry)) search notch threshold) ⌝ }
 {
     let best = strongest(spectrum, search);
     let bin = best.bin;

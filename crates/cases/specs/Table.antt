@@ -7,6 +7,7 @@ use Prim.Native.Nat.{ℕ}
 use lib.IntN.{ℤ, pos, negsuc}
 use lib.Ieee.{Float, fin}
 use lib.ListN.{replicate}
+use Rattle.lists.specs.Told.{Told, done}
 use Rattle.floats.specs.Zero.{zeroF}
 use Rattle.annex10.specs.Remainder.{remainder}
 use Rattle.annex10.specs.Header.{longHeader}
@@ -17,8 +18,6 @@ use Rattle.annex10.specs.declared.Found.the-variants.{At}
 use Rattle.math.specs.Parabola.{two, minusHalf, parabola}
 use Rattle.cn0.specs.Logarithm.{logSteps}
 use Rattle.place.specs.declared.Place.{Place}
-use Rattle.place.specs.declared.Stepped.{Stepped}
-use Rattle.place.specs.declared.Stepped.the-variants.{To}
 use Rattle.place.specs.Step.{earlierOf, laterOf}
 use Rattle.timing.specs.declared.Offset.the-variants.{Same, Earlier}
 use Rattle.timing.specs.declared.Moves.the-variants.{On, Back}
@@ -31,7 +30,7 @@ pub data Case : Type 0 where
   positions : Found → Found → Case
   whole : ℤ → ℤ → Case
   real : Float → Float → Case
-  step : Stepped → Stepped → Case
+  step : Told Place → Told Place → Case
   time : Timing → Timing → Case
 
 -- both sides are the same
@@ -93,8 +92,8 @@ cases =
     ∷ whole (logSteps two) (pos 65536)
     ∷ real (parabola one one one) zeroF
     ∷ real (parabola zeroF three two) quarter
-    ∷ step (laterOf 14 (at 31 3 1)) (To (at 32 0 0))
-    ∷ step (earlierOf 14 (at 1 0 0)) (To (at 0 3 1))
+    ∷ step (laterOf 14 (at 31 3 1)) (done (at 32 0 0))
+    ∷ step (earlierOf 14 (at 1 0 0)) (done (at 0 3 1))
     ∷ time (timingOf (fractionOf one Same)) (record { moves = On 1; fraction = minusHalf })
     ∷ time (timingOf (fractionOf minusOne Earlier)) (record { moves = Back 2; fraction = minusHalf })
     ∷ []

@@ -3,7 +3,7 @@ use annex10::Repairs;
 use mode_s::header::Validity;
 use mode_s::header::header_is_valid;
 ghost use mathlib.Core.Path.{_≡_};
-ghost use mathlib.Core.Option.{none};
+ghost use Rattle.lists.specs.Told.{refused};
 ghost use Rattle.annex10.specs.Header.{longHeader};
 ghost use Rattle.mode_s.specs.Header.{headerOf};
 ghost use Rattle.khlongrae.specs.Headers.{flatHeader, headerCheck};
@@ -15,7 +15,7 @@ pub struct FlatHeader {
 }
 
 fn refused(number: u32) -> FlatHeader
-    ensures { λ r. ⌜ r ≡ flatHeader (number, none) ⌝ }
+    ensures { λ r. ⌜ r ≡ flatHeader (refused number) ⌝ }
 {
     FlatHeader { number, valid: 0 }
 }

@@ -7,8 +7,8 @@ use streams::distance::Distance;
 use streams::distance::compute_hamming_distance;
 use streams::header::df_is_valid_extended_squitter;
 ghost use mathlib.Core.Path.{_≡_};
-ghost use mathlib.Core.Option.{none, some};
 ghost use Prim.Native.Nat.{_≤_};
+ghost use Rattle.lists.specs.Told.{done, refused};
 ghost use Rattle.mode_s.specs.Counted.{countedRepairs};
 ghost use Rattle.streams.specs.Remainders.{crcAt};
 ghost use Rattle.streams.specs.Distances.{distanceAt};
@@ -44,7 +44,7 @@ pub extern "C" fn probe_distance(a: &[u8], b: &[u8], offset: usize) -> FlatNumbe
 
 fn counted_repairs(count: u32, j: u8, k: u8) -> Repairs
     requires { ⌜ count ≤ 2 ⌝ }
-    ensures { λ r. ⌜ (0, some r) ≡ countedRepairs count j k ⌝ }
+    ensures { λ r. ⌜ done r ≡ countedRepairs count j k ⌝ }
 {
     if count == 0 {
         return Repairs::None;
@@ -56,7 +56,7 @@ fn counted_repairs(count: u32, j: u8, k: u8) -> Repairs
 }
 
 fn refused(number: u32) -> FlatNumber
-    ensures { λ r. ⌜ r ≡ flatTruth (number, none) ⌝ }
+    ensures { λ r. ⌜ r ≡ flatTruth (refused number) ⌝ }
 {
     FlatNumber { number, value: 0 }
 }

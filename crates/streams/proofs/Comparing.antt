@@ -5,7 +5,6 @@
 -- Assumes nothing.
 use mathlib.Core.Path.{_≡_, refl, sym, _∙_}
 use mathlib.Core.List.{List}
-use mathlib.Core.Option.{none, some}
 use mathlib.Core.Bool.{Bool, true, false, cond}
 use Prim.Native.Nat.{ℕ, zero, suc, _+_, _*_, _/_, _%_, _<_, _≤_}
 use native.Mathlib.Nat.{add-zero, add-suc}
@@ -16,6 +15,7 @@ use lib.Count.{ones, ones-step}
 use lib.Dec.{eqb}
 use lib.ListN.{length}
 use Rattle.lists.specs.Bits.{bitAt, value}
+use Rattle.lists.specs.Told.{done, refused}
 use Rattle.lists.proofs.Telling.{told-refused}
 use Rattle.lists.proofs.Bits.{bitAt-lt}
 use Rattle.streams.specs.Streams.{messageAt, streamNumber}
@@ -89,15 +89,15 @@ byte-more a b n o k h ex ey ed =
 -- ---- the answers
 
 module _ (a b : List ℕ) (offset : ℕ) where
-  pub distance-short : (length a ≡ 18 → ⊥) → (2, none) ≡ distanceAt a b offset
+  pub distance-short : (length a ≡ 18 → ⊥) → refused 2 ≡ distanceAt a b offset
   unfolding distanceAt pairNumber
   distance-short h = rw (ne-eqb _ _ h)
 
-  pub distance-refused : {n : ℕ} → length a ≡ 18 → n ≡ streamNumber b offset → (n ≡ 0 → ⊥) → (n, none) ≡ distanceAt a b offset
+  pub distance-refused : {n : ℕ} → length a ≡ 18 → n ≡ streamNumber b offset → (n ≡ 0 → ⊥) → refused n ≡ distanceAt a b offset
   unfolding distanceAt pairNumber
   distance-refused l e h = rw (eq-eqb _ _ l) (told-refused (differing (messageAt a 14 offset) (messageAt b 14 offset) 112) e h)
 
   pub distance-done : length a ≡ 18 → length b ≡ 18 → offset ≤ 32
-      → distanceAt a b offset ≡ (0, some (differing (messageAt a 14 offset) (messageAt b 14 offset) 112))
+      → distanceAt a b offset ≡ done (differing (messageAt a 14 offset) (messageAt b 14 offset) 112)
   unfolding distanceAt pairNumber
   distance-done l m o = rw (eq-eqb _ _ l, stream-done b offset m o)

@@ -1,10 +1,10 @@
 -- `probes::bits::probe_header` meets its contract, exit by exit. Assumes nothing.
 use mathlib.Core.Path.{_≡_, _∙_}
 use mathlib.Core.List.{List}
-use mathlib.Core.Option.{none, some}
 use Prim.Native.Nat.{ℕ, _<_}
 use borrow.Author.Tests.{eq-eqb, ne-eqb, lt-leb}
 use lib.ListN.{length}
+use Rattle.lists.specs.Told.{done, refused}
 use Rattle.annex10.specs.declared.Repairs.{Repairs}
 use Rattle.mode_s.specs.Counted.{countedRepairs}
 use Rattle.streams.specs.Headers.{validityAt}
@@ -15,15 +15,15 @@ use Rattle.probes.proofs.bits.probe_header.Statement.{statement}
 use Rattle.probes.proofs.bits.probe_header.Tie as tie
 
 module _ (bytes : List ℕ) (offset count j k : ℕ) {x : FlatNumber} where
-  short : (length bytes ≡ 18 → ⊥) → x ≡ flatTruth (2, none) → x ≡ flatTruth (countedValidity bytes offset count j k)
+  short : (length bytes ≡ 18 → ⊥) → x ≡ flatTruth (refused 2) → x ≡ flatTruth (countedValidity bytes offset count j k)
   unfolding countedValidity
   short l e = e ∙ rw (ne-eqb _ _ l)
 
-  miscounted : length bytes ≡ 18 → 2 < count → x ≡ flatTruth (4, none) → x ≡ flatTruth (countedValidity bytes offset count j k)
+  miscounted : length bytes ≡ 18 → 2 < count → x ≡ flatTruth (refused 4) → x ≡ flatTruth (countedValidity bytes offset count j k)
   unfolding countedValidity countedRepairs
   miscounted l h e = e ∙ rw (eq-eqb _ _ l, lt-leb _ _ h)
 
-  checked : {ρ : Repairs} → length bytes ≡ 18 → (0, some ρ) ≡ countedRepairs count j k → x ≡ flatTruth (validityAt bytes offset ρ)
+  checked : {ρ : Repairs} → length bytes ≡ 18 → done ρ ≡ countedRepairs count j k → x ≡ flatTruth (validityAt bytes offset ρ)
       → x ≡ flatTruth (countedValidity bytes offset count j k)
   unfolding countedValidity
   checked l r e = e ∙ rw (eq-eqb _ _ l, ← r)

@@ -1,4 +1,5 @@
 -- Laws of the bit distance.
+--     byte-le           two bytes differ in at most eight bits
 --     byte-more         one more byte of each is compared
 --     differing-le      at most all positions differ
 --     distance-         the answers: refused, done
@@ -6,18 +7,18 @@
 use mathlib.Core.Path.{_≡_, refl, sym, _∙_}
 use mathlib.Core.List.{List}
 use mathlib.Core.Bool.{Bool, true, false, cond}
-use Prim.Native.Nat.{ℕ, zero, suc, _+_, _*_, _/_, _%_, _<_, _≤_}
+use Prim.Native.Nat.{ℕ, zero, suc, _+_, _*_, _/_, _%_, _^_, _<_, _≤_}
 use native.Mathlib.Nat.{add-zero, add-suc}
 use native.Mathlib.Omega.{arith}
 use borrow.Author.Tests.{eq-eqb, ne-eqb}
-use lib.Bits.{bitXor, differ, xor-step}
-use lib.Count.{ones, ones-step}
+use lib.Bits.{bitXor, differ, xor-step, xor-lt}
+use lib.Count.{ones, ones-step, ones-le}
 use lib.Dec.{eqb}
 use lib.ListN.{length}
 use Rattle.lists.specs.Bits.{bitAt, value}
 use Rattle.lists.specs.Told.{done, refused}
 use Rattle.lists.proofs.Telling.{told-refused}
-use Rattle.lists.proofs.Bits.{bitAt-lt}
+use Rattle.lists.proofs.Bits.{bitAt-lt, value-lt}
 use Rattle.streams.specs.Streams.{messageAt, streamNumber}
 use Rattle.streams.specs.Distances.{differing, pairNumber, distanceAt}
 use Rattle.streams.proofs.Reading.{message-value, stream-done}
@@ -76,6 +77,13 @@ module _ (x y : List ℕ) where
       let h : (bitXor v w * 2 + unlike p q) / 2 ≡ bitXor v w = omega arith in
       let m : (bitXor v w * 2 + unlike p q) % 2 ≡ unlike p q = omega arith in
       rw (s, ones-step (bitXor v w * 2 + unlike p q), h, m, ones-span j n) (omega arith)
+
+-- two bytes differ in at most eight bits
+pub byte-le : (a b : List ℕ) (i j : ℕ) {x y : ℕ} → x ≡ value (bitAt a) i 8 → y ≡ value (bitAt b) j 8 → ones (bitXor x y) ≤ 8
+byte-le a b i j {x} {y} ex ey =
+    let lx : x < 2 ^ 8 = rw ex (value-lt (bitAt a) (λ k. bitAt-lt a k refl) i 8) in
+    let ly : y < 2 ^ 8 = rw ey (value-lt (bitAt b) (λ k. bitAt-lt b k refl) j 8) in
+    ones-le 8 (bitXor x y) (xor-lt 8 x y lx ly)
 
 pub byte-more : (a b : List ℕ) (n o k : ℕ) {x y d : ℕ} → k < n → x ≡ value (bitAt a) (o + 8 * k) 8 → y ≡ value (bitAt b) (o + 8 * k) 8
     → d ≡ differing (messageAt a n o) (messageAt b n o) (8 * k)

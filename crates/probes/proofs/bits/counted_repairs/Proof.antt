@@ -1,5 +1,5 @@
 -- `probes::bits::counted_repairs` meets its contract, by the two tests. Assumes nothing.
-use borrow.Author.Tests.{eq-eqb, ne-eqb, le-leb}
+use borrow.Author.Tests.{ne-eqb, le-leb}
 use Rattle.mode_s.specs.Counted.{countedRepairs}
 use Rattle.probes.proofs.bits.counted_repairs.Statement.{statement}
 use Rattle.probes.proofs.bits.counted_repairs.Tie as tie

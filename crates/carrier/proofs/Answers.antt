@@ -1,78 +1,55 @@
 -- The answers: refused, done.
 --     search-, floor-, carrier-          the three calls over a spectrum
 --     measured-                          a peak that stands out, and a weak one
---     carrier-number, refused-zeros      number and values of an answer
 -- Assumes nothing.
-use mathlib.Core.Path.{_≡_, refl}
+use mathlib.Core.Path.{_≡_}
 use mathlib.Core.List.{List}
-use mathlib.Core.Bool.{Bool, true, false}
-use Prim.Native.Nat.{ℕ, zero, suc}
+use mathlib.Core.Bool.{true, false}
+use Prim.Native.Nat.{ℕ}
 use lib.ListN.{length}
 use lib.Ieee.{Float, binary32, mul, le}
+use Rattle.lists.specs.Told.{Told, done, refused}
+use Rattle.lists.proofs.Telling.{told-refused, told-done}
 use Rattle.floats.specs.Zero.{zeroF}
 use Rattle.carrier.specs.declared.search.Best.{Best}
-use Rattle.carrier.specs.declared.search.Search.the-variants as search
-use Rattle.carrier.specs.declared.notch.Floor.the-variants as notch
-use Rattle.carrier.specs.declared.metric.Carrier.{Carrier}
-use Rattle.carrier.specs.declared.metric.Carrier.the-variants.{Peak, Weak, Refused}
 use Rattle.carrier.specs.Refusals.{searchNumber, floorNumber, carrierNumber}
 use Rattle.carrier.specs.Peaks.{peakOf, searchOf}
 use Rattle.carrier.specs.Floors.{floorOf, floorAt}
-use Rattle.carrier.specs.Carriers.{fractionOf, standsOut, carrierAnswer, carrierOf, numberOf, valuesOf}
-use Rattle.carrier.specs.Inner.{measured}
+use Rattle.carrier.specs.Carriers.{CarrierValues, binFraction, standsOut, measured, carrierOf}
 
 module _ (s : List Float) (m : ℕ) where
-  pub search-refused : {n : ℕ} → n ≡ searchNumber (length s) m → (n ≡ 0 → ⊥) → search.Refused n ≡ searchOf s m
+  pub search-refused : {n : ℕ} → n ≡ searchNumber (length s) m → (n ≡ 0 → ⊥) → refused n ≡ searchOf s m
   unfolding searchOf
-  search-refused {n = zero} e h = absurd (h refl)
-  search-refused {n = suc n} e h = rw (← e)
+  search-refused = told-refused (peakOf s m .bin, peakOf s m .value)
 
-  pub search-done : {n : ℕ} {b : Best} → n ≡ searchNumber (length s) m → n ≡ 0 → b ≡ peakOf s m → search.Found (b .bin) (b .value) ≡ searchOf s m
+  pub search-done : {n : ℕ} {b : Best} → n ≡ searchNumber (length s) m → n ≡ 0 → b ≡ peakOf s m → done (b .bin, b .value) ≡ searchOf s m
   unfolding searchOf
-  search-done e z q = rw (← e, z, ← q)
+  search-done e z q = rw q (told-done (peakOf s m .bin, peakOf s m .value) e z)
 
 module _ (s : List Float) (bin w : ℕ) where
-  pub floor-refused : {n : ℕ} → n ≡ floorNumber (length s) bin w → (n ≡ 0 → ⊥) → notch.Refused n ≡ floorAt s bin w
+  pub floor-refused : {n : ℕ} → n ≡ floorNumber (length s) bin w → (n ≡ 0 → ⊥) → refused n ≡ floorAt s bin w
   unfolding floorAt
-  floor-refused {n = zero} e h = absurd (h refl)
-  floor-refused {n = suc n} e h = rw (← e)
+  floor-refused = told-refused (floorOf s bin w)
 
-  pub floor-done : {n : ℕ} {p : Float} → n ≡ floorNumber (length s) bin w → n ≡ 0 → p ≡ floorOf s bin w → notch.Is p ≡ floorAt s bin w
+  pub floor-done : {n : ℕ} {p : Float} → n ≡ floorNumber (length s) bin w → n ≡ 0 → p ≡ floorOf s bin w → done p ≡ floorAt s bin w
   unfolding floorAt
-  floor-done e z q = rw (← e, z, ← q)
+  floor-done e z q = rw q (told-done (floorOf s bin w) e z)
 
 module _ (s : List Float) (m w : ℕ) (threshold : Float) where
   pub measured-peak : {b : Best} {fraction floor : Float} → b ≡ peakOf s m → floor ≡ floorOf s (b .bin) w → le (mul binary32 threshold floor) (b .value) ≡ true
-      → fraction ≡ fractionOf s (b .bin) → Peak (b .bin) fraction (b .value) floor ≡ measured s m w threshold
+      → fraction ≡ binFraction s (b .bin) → _≡_ {A = Told CarrierValues} (done (true, b .bin, fraction, b .value, floor)) (done (measured s m w threshold))
   unfolding measured standsOut
   measured-peak e f t g = rw (← e, ← f, t, ← g)
 
   pub measured-weak : {b : Best} {floor : Float} → b ≡ peakOf s m → floor ≡ floorOf s (b .bin) w → le (mul binary32 threshold floor) (b .value) ≡ false
-      → Weak (b .value) floor ≡ measured s m w threshold
+      → _≡_ {A = Told CarrierValues} (done (false, 0, zeroF, b .value, floor)) (done (measured s m w threshold))
   unfolding measured standsOut
   measured-weak e f t = rw (← e, ← f, t)
 
-  pub carrier-refused : {n : ℕ} → n ≡ carrierNumber (length s) m w threshold → (n ≡ 0 → ⊥) → Refused n ≡ carrierOf s m w threshold
+  pub carrier-refused : {n : ℕ} → n ≡ carrierNumber (length s) m w threshold → (n ≡ 0 → ⊥) → refused n ≡ carrierOf s m w threshold
   unfolding carrierOf
-  carrier-refused {n = zero} e h = absurd (h refl)
-  carrier-refused {n = suc n} e h = rw (← e)
+  carrier-refused = told-refused (measured s m w threshold)
 
-  pub carrier-done : {n : ℕ} → n ≡ carrierNumber (length s) m w threshold → n ≡ 0 → measured s m w threshold ≡ carrierOf s m w threshold
-  unfolding carrierOf measured
-  carrier-done e z = rw (← e, z)
-
-answer-number : (n : ℕ) (t : Bool) (bin : ℕ) (fraction value floor : Float) → numberOf (carrierAnswer n t bin fraction value floor) ≡ n
-answer-number zero true bin fraction value floor = refl
-answer-number zero false bin fraction value floor = refl
-answer-number (suc n) t bin fraction value floor = refl
-
--- an answer's number is the call's
-pub carrier-number : (s : List Float) (m w : ℕ) (threshold : Float) → numberOf (carrierOf s m w threshold) ≡ carrierNumber (length s) m w threshold
-unfolding carrierOf
-carrier-number s m w threshold = answer-number _ _ _ _ _ _
-
--- a refused call has zeros
-pub refused-zeros : (c : Carrier) → (numberOf c ≡ 0 → ⊥) → valuesOf c ≡ (0, zeroF, zeroF, zeroF)
-refused-zeros (Peak bin fraction value floor) h = absurd (h refl)
-refused-zeros (Weak value floor) h = absurd (h refl)
-refused-zeros (Refused n) h = refl
+  pub carrier-done : {n : ℕ} → n ≡ carrierNumber (length s) m w threshold → n ≡ 0 → done (measured s m w threshold) ≡ carrierOf s m w threshold
+  unfolding carrierOf
+  carrier-done = told-done (measured s m w threshold)

@@ -15,15 +15,15 @@ use lib.Ieee.{Float, nan, inf, fin, binary32, unlike, up, down, below, level, of
 use lib.Ieee.Bits.{is-true}
 use lib.Ieee.Exact.{HasValue, round-exact}
 use lib.Ieee.Fits.{down-pos}
+use Rattle.lists.specs.Told.{done}
 use Rattle.floats.specs.Zero.{zeroF}
 use Rattle.math.specs.Parabola.{parabola}
 use Rattle.floats.proofs.Order.{zero-of}
-use Rattle.carrier.specs.declared.metric.Carrier.the-variants.{Peak}
 use lib.Ieee.Scale.{finite}
 use Rattle.carrier.specs.Refusals.{binsTaken, thresholdTaken, carrierNumber}
-use Rattle.carrier.specs.Peaks.{binAt, better, peakFrom, peakOf}
+use Rattle.carrier.specs.Peaks.{binAt, stronger, peakFrom, peakOf}
 use Rattle.carrier.specs.Floors.{outside, floorTo, floorOf}
-use Rattle.carrier.specs.Carriers.{fractionOf, carrierOf}
+use Rattle.carrier.specs.Carriers.{binFraction, carrierOf}
 use Rattle.carrier.proofs.Taken.{carrier-taken}
 use Rattle.carrier.proofs.Answers.{measured-peak, carrier-done}
 
@@ -84,7 +84,7 @@ level-parabola = refl
 
 module _ (s : List Float) (zeros : (j : ℕ) → j < length s → binAt s j ≡ zeroF) where
   blank-peak : (first n : ℕ) → first + n ≤ length s → peakFrom s first n ≡ record { bin = first; value = zeroF }
-  unfolding peakFrom better
+  unfolding peakFrom stronger
   blank-peak first zero h = refl
   blank-peak first (suc n) h = rw (blank-peak first n (omega arith), zeros (first + n) (omega arith), none-greater)
 
@@ -98,12 +98,12 @@ module _ (s : List Float) (zeros : (j : ℕ) → j < length s → binAt s j ≡ 
       either false = refl
 
   pub blank : (m w : ℕ) (threshold : Float) → carrierNumber (length s) m w threshold ≡ 0
-      → carrierOf s m w threshold ≡ Peak (length s / 2 - m) zeroF zeroF zeroF
-  unfolding peakOf floorOf fractionOf
+      → carrierOf s m w threshold ≡ done (true, length s / 2 - m, zeroF, zeroF, zeroF)
+  unfolding peakOf floorOf binFraction
   blank m w threshold e =
       let t = carrier-taken (length s) m w threshold refl e in
       let at = length s / 2 - m in
-      let f : fractionOf s at ≡ zeroF =
+      let f : binFraction s at ≡ zeroF =
       rw (zeros (at - 1) (omega (arith, t .wide)), zeros at (omega (arith, t .wide)), zeros (at + 1) (omega (arith, t .wide)), level-parabola) in
       sym (measured-peak s m w threshold {b = record { bin = at; value = zeroF }}
       (sym (blank-peak at (2 * m + 1) (omega (arith, t .wide))))

@@ -17,11 +17,12 @@ use lib.Dec.{T, ltb}
 use lib.ListN.{length}
 use lib.Ieee.{Float, lt, le, isNan}
 use lib.Ieee.Bits.{is-true, is-false}
+use Rattle.lists.specs.Told.{Told, done, tell}
+use Rattle.lists.proofs.Telling.{told-number, told-values}
 use Rattle.floats.specs.Zero.{zeroF}
 use Rattle.carrier.specs.declared.search.Best.{Best}
-use Rattle.carrier.specs.declared.search.Search.the-variants.{Found}
 use Rattle.carrier.specs.Refusals.{searchNumber}
-use Rattle.carrier.specs.Peaks.{binAt, better, peakFrom, peakOf, searchAnswer, searchOf}
+use Rattle.carrier.specs.Peaks.{binAt, stronger, peakFrom, peakOf, searchOf}
 use Rattle.carrier.proofs.Taken.{search-taken}
 use Rattle.floats.proofs.Order.{lt-irreflexive, lt-transitive, lt-no-nan-r}
 use Rattle.floats.proofs.Compare.{lt-le, lt-or-le}
@@ -105,7 +106,7 @@ module _ (s : List Float) (first : ℕ) where
   ]
 
   top : (n : ℕ) → Top (first + n) (peakFrom s first n .value)
-  unfolding peakFrom better
+  unfolding peakFrom stronger
   top zero = λ j h l g. absurd (none j h (rw (add-zero first) at l))
     where
       none : (j : ℕ) → first ≤ j → j < first → ⊥
@@ -115,7 +116,7 @@ module _ (s : List Float) (first : ℕ) where
       (top-more (first + n) (peakFrom s first n) (lt (peakFrom s first n .value) (binAt s (first + n))) refl (top n))
 
   leads : (n : ℕ) → (peakFrom s first n ≡ start) ⊎ Leads (first + n) (peakFrom s first n)
-  unfolding peakFrom better
+  unfolding peakFrom stronger
   leads zero = inl refl
   leads (suc n) =
       rw (add-suc first n)
@@ -123,12 +124,13 @@ module _ (s : List Float) (first : ℕ) where
 
 -- ---- the answer
 
-taken : (k : ℕ) (b : Best) (bin : ℕ) (value : Float) → searchAnswer k b ≡ Found bin value → (k ≡ 0) × (b ≡ record { bin = bin; value = value })
-taken zero b bin value e =
-    let p : b .bin ≡ bin = cc in
-    let q : b .value ≡ value = cc in
-    (refl, rw (← p, ← q))
-taken (suc k) b bin value e = absurd (let z : _≡_ {A = ℕ} 0 1 = cc in omega arith)
+taken : (k : ℕ) (b : Best) (bin : ℕ) (value : Float) → tell {A = ℕ × Float} k (b .bin, b .value) ≡ done (bin, value)
+    → (k ≡ 0) × (b ≡ record { bin = bin; value = value })
+taken k b bin value e =
+    let v = told-values (b .bin, b .value) k e in (
+      sym (told-number (b .bin, b .value) k) ∙ ap (λ (t : Told (ℕ × Float)). t .0) e,
+      ap (λ (p : ℕ × Float). record { bin = p .0; value = p .1 }) v,
+    )
 
 -- what is known of a bin and a value that were found
 record Opened (s : List Float) (m bin : ℕ) (value : Float) : Type 0 where
@@ -136,7 +138,7 @@ record Opened (s : List Float) (m bin : ℕ) (value : Float) : Type 0 where
   stands : (record { bin = bin; value = value } ≡ start s (length s / 2 - m))
       ⊎ Leads s (length s / 2 - m) (length s / 2 + m + 1) (record { bin = bin; value = value })
 
-opened : (s : List Float) (m bin : ℕ) (value : Float) → searchOf s m ≡ Found bin value → Opened s m bin value
+opened : (s : List Float) (m bin : ℕ) (value : Float) → searchOf s m ≡ done (bin, value) → Opened s m bin value
 unfolding searchOf peakOf
 opened s m bin value e =
     let r = taken (searchNumber (length s) m) (peakOf s m) bin value e in
@@ -149,7 +151,7 @@ opened s m bin value e =
       stands = rw (ends, r .1) at (leads s at (2 * m + 1));
     }
 
-module _ (s : List Float) (m bin : ℕ) (value : Float) (answer : searchOf s m ≡ Found bin value) where
+module _ (s : List Float) (m bin : ℕ) (value : Float) (answer : searchOf s m ≡ done (bin, value)) where
   -- some bin that is searched is above 0.0
   pub first-greatest : (j : ℕ) → InSearch s m j → lt zeroF (binAt s j) ≡ true → FirstGreatest s m bin value
   first-greatest j i g =

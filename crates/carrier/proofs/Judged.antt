@@ -5,15 +5,15 @@
 -- Assumes nothing.
 use mathlib.Core.Path.{_≡_, refl, sym, _∙_}
 use mathlib.Core.List.{List}
-use mathlib.Core.Bool.{Bool, false}
+use mathlib.Core.Bool.{Bool, true, false}
 use Prim.Native.Nat.{ℕ, zero}
 use borrow.Author.Tests.{eq-eqb}
 use lib.IntN.{ℤ}
 use lib.ListN.{length, getD}
 use lib.Ieee.{Float, nan, inf, fin, binary32, mul, lt, eq, le}
+use Rattle.lists.specs.Told.{done}
+use Rattle.floats.specs.Zero.{zeroF}
 use Rattle.floats.proofs.Nan.{nan-lt, nan-le}
-use Rattle.carrier.specs.declared.metric.Carrier.the-variants.{Weak}
-use Rattle.carrier.specs.declared.maximum.LocalMaximum.the-variants.{Yes}
 use Rattle.carrier.specs.Refusals.{carrierNumber}
 use Rattle.carrier.specs.Peaks.{peakOf}
 use Rattle.carrier.specs.Floors.{floorOf}
@@ -35,18 +35,18 @@ zero-product : (sign i : Bool) (e : ℤ) → mul binary32 (fin sign zero e) (inf
 unfolding mul
 zero-product sign i e = refl
 
-module _ (s : List Float) (m w : ℕ) (threshold : Float) (done : carrierNumber (length s) m w threshold ≡ 0) where
+module _ (s : List Float) (m w : ℕ) (threshold : Float) (taken : carrierNumber (length s) m w threshold ≡ 0) where
   weak : {floor : Float} → floor ≡ floorOf s (peakOf s m .bin) w → mul binary32 threshold floor ≡ nan
-      → carrierOf s m w threshold ≡ Weak (peakOf s m .value) floor
-  weak f e = sym (carrier-done s m w threshold refl done) ∙ sym (measured-weak s m w threshold refl f (nan-below (peakOf s m .value) e))
+      → carrierOf s m w threshold ≡ done (false, 0, zeroF, peakOf s m .value, floor)
+  weak f e = sym (carrier-done s m w threshold refl taken) ∙ sym (measured-weak s m w threshold refl f (nan-below (peakOf s m .value) e))
 
-  pub nan-floor : floorOf s (peakOf s m .bin) w ≡ nan → carrierOf s m w threshold ≡ Weak (peakOf s m .value) nan
+  pub nan-floor : floorOf s (peakOf s m .bin) w ≡ nan → carrierOf s m w threshold ≡ done (false, 0, zeroF, peakOf s m .value, nan)
   nan-floor f = weak (sym f) (nan-product threshold)
 
   pub infinite-floor : (sign i : Bool) (e : ℤ) → threshold ≡ fin sign zero e → floorOf s (peakOf s m .bin) w ≡ inf i
-      → carrierOf s m w threshold ≡ Weak (peakOf s m .value) (inf i)
+      → carrierOf s m w threshold ≡ done (false, 0, zeroF, peakOf s m .value, inf i)
   infinite-floor sign i e t f = weak (sym f) (rw t (zero-product sign i e))
 
-pub nan-third : (v : List Float) → length v ≡ 5 → getD v 2 nan ≡ nan → maximumOf v ≡ Yes
+pub nan-third : (v : List Float) → length v ≡ 5 → getD v 2 nan ≡ nan → maximumOf v ≡ done true
 unfolding maximumOf earlierAsGreat laterGreater
 nan-third v l e = simp (eq-eqb _ _ l, e, nan-le, nan-lt)

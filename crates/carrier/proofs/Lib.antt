@@ -4,3 +4,4 @@ pub mod Answers
 pub mod Greatest
 pub mod Judged
 pub mod Blank
+pub mod Told

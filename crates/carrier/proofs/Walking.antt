@@ -18,7 +18,7 @@ use lib.ListN.{length}
 use lib.Ieee.{Float, binary32, add, lt}
 use Rattle.floats.specs.Zero.{zeroF}
 use Rattle.carrier.specs.declared.search.Best.{Best}
-use Rattle.carrier.specs.Peaks.{binAt, better, peakFrom, peakOf}
+use Rattle.carrier.specs.Peaks.{binAt, stronger, peakFrom, peakOf}
 use Rattle.carrier.specs.Floors.{outside, floorTo, floorOf}
 use Rattle.carrier.specs.Inner.{onto}
 
@@ -29,7 +29,7 @@ module _ (s : List Float) (first : ℕ) where
       let e : first - first ≡ 0 = omega arith in
       rw e
 
-  peak-more : (j : ℕ) {b : Best} → first ≤ j → b ≡ peakFrom s first (j - first) → better b j (binAt s j) ≡ peakFrom s first (j + 1 - first)
+  peak-more : (j : ℕ) {b : Best} → first ≤ j → b ≡ peakFrom s first (j - first) → stronger b j (binAt s j) ≡ peakFrom s first (j + 1 - first)
   unfolding peakFrom
   peak-more j h e =
       let a : j + 1 - first ≡ suc (j - first) = omega arith in
@@ -38,12 +38,12 @@ module _ (s : List Float) (first : ℕ) where
 
   pub peak-took : (j : ℕ) {b r : Best} → first ≤ j → b ≡ peakFrom s first (j - first) → lt (b .value) (binAt s j) ≡ true
       → r ≡ record { bin = j; value = binAt s j } → r ≡ peakFrom s first (j + 1 - first)
-  unfolding better
+  unfolding stronger
   peak-took j h e t q = q ∙ rw t at (peak-more j h e)
 
   pub peak-kept : (j : ℕ) {b r : Best} → first ≤ j → b ≡ peakFrom s first (j - first) → lt (b .value) (binAt s j) ≡ false
       → r ≡ b → r ≡ peakFrom s first (j + 1 - first)
-  unfolding better
+  unfolding stronger
   peak-kept j h e t q = q ∙ rw t at (peak-more j h e)
 
 -- ---- where the first greatest lies
@@ -52,18 +52,18 @@ pub record Within (first last bin : ℕ) : Type 0 where
   pub low : first ≤ bin
   pub high : bin ≤ last
 
-within-better : (first last j : ℕ) (b : Best) (x : Float) (t : Bool) → first ≤ j → last ≤ j → Within first last (b .bin)
+within-stronger : (first last j : ℕ) (b : Best) (x : Float) (t : Bool) → first ≤ j → last ≤ j → Within first last (b .bin)
     → Within first j (cond {A = Best} t (record { bin = j; value = x }) b .bin)
-within-better first last j b x true h k r = record { low = h; high = omega arith }
-within-better first last j b x false h k r = record { low = r .low; high = omega (arith, r .high) }
+within-stronger first last j b x true h k r = record { low = h; high = omega arith }
+within-stronger first last j b x false h k r = record { low = r .low; high = omega (arith, r .high) }
 
 pub peak-within : (s : List Float) (first n : ℕ) → Within first (first + (n - 1)) (peakFrom s first n .bin)
-unfolding peakFrom better
+unfolding peakFrom stronger
 peak-within s first zero = record { low = omega arith; high = omega arith }
 peak-within s first (suc n) =
     let e : suc n - 1 ≡ n = omega arith in
     rw e
-    (within-better first (first + (n - 1)) (first + n) (peakFrom s first n) (binAt s (first + n))
+    (within-stronger first (first + (n - 1)) (first + n) (peakFrom s first n) (binAt s (first + n))
     (lt (peakFrom s first n .value) (binAt s (first + n))) (omega arith) (omega arith) (peak-within s first n))
 
 pub strongest-is : (s : List Float) (m : ℕ) {b : Best} → m ≤ length s / 2

@@ -6,6 +6,7 @@ use Prim.Native.Nat.{ℕ, zero, suc, _+_}
 use lib.Dec.{ltb}
 use lib.ListN.{length}
 use lib.Ieee.{Float, binary32, add}
+use Rattle.lists.specs.Told.{Told, done, refused, tell}
 use Rattle.floats.specs.Zero.{zeroF}
 use Rattle.carrier.specs.declared.notch.Floor.{Floor}
 use Rattle.carrier.specs.declared.notch.Floor.the-variants.{Is, Refused}
@@ -28,11 +29,11 @@ floorTo s bin w (suc n) =
 unfoldable pub floorOf : List Float → ℕ → ℕ → Float
 floorOf s bin w = floorTo s bin w (length s)
 
--- a number and a value as an answer: the value with number 0, a refusal with any other
-abbrev pub floorAnswer : ℕ → Float → Floor
-floorAnswer zero p = Is p
-floorAnswer (suc n) p = Refused (suc n)
+-- an answer: its number, and the floor with number 0
+abbrev pub floorTold : Floor → Told Float
+floorTold (Is p) = done p
+floorTold (Refused n) = refused n
 
 -- what `carrier_notched_power` answers
-unfoldable pub floorAt : List Float → ℕ → ℕ → Floor
-floorAt s bin w = floorAnswer (floorNumber (length s) bin w) (floorOf s bin w)
+unfoldable pub floorAt : List Float → ℕ → ℕ → Told Float
+floorAt s bin w = tell (floorNumber (length s) bin w) (floorOf s bin w)

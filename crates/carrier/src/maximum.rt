@@ -1,6 +1,6 @@
 // Whether the third of five values is a local maximum: of a plateau, the first is.
 ghost use mathlib.Core.Path.{_≡_};
-ghost use Rattle.carrier.specs.Maxima.{maximumOf};
+ghost use Rattle.carrier.specs.Maxima.{maximumTold, maximumOf};
 
 pub enum LocalMaximum {
     Yes,
@@ -9,7 +9,7 @@ pub enum LocalMaximum {
 }
 
 pub fn check_local_maximum(values: &[f32]) -> LocalMaximum
-    ensures { λ r. ⌜ r ≡ maximumOf (now (values .entry)) ⌝ }
+    ensures { λ r. ⌜ maximumTold r ≡ maximumOf (now (values .entry)) ⌝ }
 {
     if values.len() != 5 {
         return LocalMaximum::Refused(2);

@@ -6,8 +6,8 @@ use math::parabolic_interpolation;
 ghost use mathlib.Core.Path.{_≡_};
 ghost use Prim.Native.Nat.{_+_, _/_, _<_, _≤_};
 ghost use lib.ListN.{length};
-ghost use Rattle.carrier.specs.Carriers.{fractionOf, carrierOf};
-ghost use Rattle.carrier.specs.Inner.{measured};
+ghost use Rattle.lists.specs.Told.{done};
+ghost use Rattle.carrier.specs.Carriers.{carrierTold, binFraction, measured, carrierOf};
 
 pub enum Carrier {
     Peak {
@@ -26,14 +26,14 @@ pub enum Carrier {
 // How far the carrier lies from the middle of a bin.
 fn bin_fraction(spectrum: &[f32], bin: usize) -> f32
     requires { ⌜ (0 < bin) × (bin + 1 < length (now spectrum)) ⌝ }
-    ensures { λ r. ⌜ r ≡ fractionOf (now (spectrum .entry)) bin ⌝ }
+    ensures { λ r. ⌜ r ≡ binFraction (now (spectrum .entry)) bin ⌝ }
 {
     parabolic_interpolation(spectrum[bin - 1], spectrum[bin], spectrum[bin + 1])
 }
 
 fn measure(spectrum: &[f32], search: usize, notch: usize, threshold: f32) -> Carrier
     requires { ⌜ (search + 2 ≤ length (now spectrum) / 2) × (notch < length (now spectrum)) × (length (now spectrum) ≤ 4096) ⌝ }
-    ensures { λ r. ⌜ r ≡ measured (now (spectrum .entry)) search notch threshold ⌝ }
+    ensures { λ r. ⌜ carrierTold r ≡ done (measured (now (spectrum .entry)) search notch threshold) ⌝ }
 {
     let best = strongest(spectrum, search);
     let bin = best.bin;
@@ -57,7 +57,7 @@ pub fn check_carrier_metric(
     notch: usize,
     threshold: f32,
 ) -> Carrier
-    ensures { λ r. ⌜ r ≡ carrierOf (now (spectrum .entry)) search notch threshold ⌝ }
+    ensures { λ r. ⌜ carrierTold r ≡ carrierOf (now (spectrum .entry)) search notch threshold ⌝ }
 {
     let number = carrier_number(spectrum.len(), search, notch, threshold);
     if number != 0 {

@@ -2,7 +2,7 @@
 use crate::bins::strongest;
 use crate::refusal::search_number;
 ghost use mathlib.Core.Path.{_≡_};
-ghost use Rattle.carrier.specs.Peaks.{searchOf};
+ghost use Rattle.carrier.specs.Peaks.{searchTold, searchOf};
 
 pub struct Best {
     pub bin: usize,
@@ -15,7 +15,7 @@ pub enum Search {
 }
 
 pub fn long_fft_max_search(spectrum: &[f32], search: usize) -> Search
-    ensures { λ r. ⌜ r ≡ searchOf (now (spectrum .entry)) search ⌝ }
+    ensures { λ r. ⌜ searchTold r ≡ searchOf (now (spectrum .entry)) search ⌝ }
 {
     let number = search_number(spectrum.len(), search);
     if number != 0 {

@@ -7,17 +7,17 @@ use Prim.Native.Nat.{ℕ}
 use lib.IntN.{ℤ, pos, negsuc}
 use lib.Ieee.{Float, fin}
 use lib.ListN.{replicate}
+use Rattle.lists.specs.Told.{Told, done}
+use Rattle.floats.specs.Zero.{zeroF}
 use Rattle.annex10.specs.Remainder.{remainder}
 use Rattle.annex10.specs.Header.{longHeader}
 use Rattle.annex10.specs.Repair.{pattern, clearing}
 use Rattle.annex10.specs.declared.Repairs.the-variants.{One, Two}
 use Rattle.annex10.specs.declared.Found.{Found}
 use Rattle.annex10.specs.declared.Found.the-variants.{At}
-use Rattle.math.specs.Parabola.{parabola}
+use Rattle.math.specs.Parabola.{two, minusHalf, parabola}
 use Rattle.cn0.specs.Logarithm.{logSteps}
 use Rattle.place.specs.declared.Place.{Place}
-use Rattle.place.specs.declared.Stepped.{Stepped}
-use Rattle.place.specs.declared.Stepped.the-variants.{To}
 use Rattle.place.specs.Step.{earlierOf, laterOf}
 use Rattle.timing.specs.declared.Offset.the-variants.{Same, Earlier}
 use Rattle.timing.specs.declared.Moves.the-variants.{On, Back}
@@ -30,7 +30,7 @@ pub data Case : Type 0 where
   positions : Found → Found → Case
   whole : ℤ → ℤ → Case
   real : Float → Float → Case
-  step : Stepped → Stepped → Case
+  step : Told Place → Told Place → Case
   time : Timing → Timing → Case
 
 -- both sides are the same
@@ -55,10 +55,7 @@ worked = (0x88 ∷ 0x07 ∷ 0x76 ∷ 0xAC ∷ []) ++ replicate 10 0
 abbrev pub check : List ℕ
 check = 49 ∷ 50 ∷ 51 ∷ 52 ∷ 53 ∷ 54 ∷ 55 ∷ 56 ∷ 57 ∷ []
 
--- 0, 0.25, 1, 1.5, 2, 3, -0.5, -1
-abbrev pub none : Float
-none = fin false 0 (pos 0)
-
+-- 0.25, 1, 1.5, 3, -1
 abbrev pub quarter : Float
 quarter = fin false 1 (negsuc 1)
 
@@ -68,14 +65,8 @@ one = fin false 1 (pos 0)
 abbrev pub oneAndAHalf : Float
 oneAndAHalf = fin false 3 (negsuc 0)
 
-abbrev pub two : Float
-two = fin false 1 (pos 1)
-
 abbrev pub three : Float
 three = fin false 3 (pos 0)
-
-abbrev pub minusHalf : Float
-minusHalf = fin true 1 (negsuc 0)
 
 abbrev pub minusOne : Float
 minusOne = fin true 1 (pos 0)
@@ -99,10 +90,10 @@ cases =
     ∷ truth (longHeader 0x91) false
     ∷ whole (logSteps oneAndAHalf) (pos 38336)
     ∷ whole (logSteps two) (pos 65536)
-    ∷ real (parabola one one one) none
-    ∷ real (parabola none three two) quarter
-    ∷ step (laterOf 14 (at 31 3 1)) (To (at 32 0 0))
-    ∷ step (earlierOf 14 (at 1 0 0)) (To (at 0 3 1))
+    ∷ real (parabola one one one) zeroF
+    ∷ real (parabola zeroF three two) quarter
+    ∷ step (laterOf 14 (at 31 3 1)) (done (at 32 0 0))
+    ∷ step (earlierOf 14 (at 1 0 0)) (done (at 0 3 1))
     ∷ time (timingOf (fractionOf one Same)) (record { moves = On 1; fraction = minusHalf })
     ∷ time (timingOf (fractionOf minusOne Earlier)) (record { moves = Back 2; fraction = minusHalf })
     ∷ []

@@ -5,13 +5,13 @@ use mathlib.Core.Bool.{true}
 use mathlib.Core.List.{List}
 use Prim.Native.Nat.{ℕ, _+_, _*_, _<_}
 use lib.Ieee.{Float}
-use Rattle.lists.specs.Bits.{bitAt}
+use Rattle.lists.specs.Bits.{asBit, bitAt}
 use Rattle.place.specs.declared.Place.{Place}
 use Rattle.place.specs.declared.Slicer.{Slicer}
 use Rattle.place.specs.Step.{symbolStart}
 use Rattle.place.specs.All.{listed}
 use Rattle.kernels.specs.Symbols.{symbolOf}
-use Rattle.kernels.specs.Slices.{greaterBy, asBit}
+use Rattle.kernels.specs.Slices.{greaterBy}
 use Rattle.search.specs.Seen.{bitsAt}
 
 -- bit j of a slicer at a place: 1 exactly when the first symbol of its pair is strictly greater than the second. A symbol is the

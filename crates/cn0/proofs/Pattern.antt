@@ -18,7 +18,7 @@ use lib.Ieee.Positive.{positive}
 use Rattle.floats.proofs.Integers.{sub-ge, sub-same}
 use Rattle.floats.proofs.Exact.{pow-back, pow-back-le, fits-parts}
 use Rattle.cn0.specs.Logarithm.{floorLog, significand}
-use Rattle.cn0.specs.Apart.{Placed}
+use Rattle.cn0.specs.Inner.{Placed}
 
 -- ---- the number of digits
 pub size-pos : (m : ℕ) → 0 < m → 0 < size m

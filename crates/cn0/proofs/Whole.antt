@@ -11,7 +11,7 @@ use mir.Syntax.{w32}
 use mir.Val.{SFits, toZ, ofZ}
 use mir.ValLaws.{toZ-pos, toZ-ofZ}
 use Rattle.cn0.specs.Logarithm.{floorLog, digits, logSteps}
-use Rattle.cn0.specs.Apart.{Placed}
+use Rattle.cn0.specs.Inner.{Placed}
 use Rattle.floats.proofs.Integers.{sub-ge, sub-lt, sub-same, neg-pos}
 
 scaled : (p d : ℕ) → subℕ (65536 * p + d) 9830400 ≡ pos 65536 *ℤ subℕ p 150 +ℤ pos d

@@ -3,10 +3,8 @@
 use mathlib.Core.Bool.{false, _||_, cond}
 use lib.IntN.{pos}
 use lib.Ieee.{Float, fin, binary32, sub, mul, div, lt, isNan}
+use Rattle.floats.specs.Zero.{zeroF}
 use Rattle.cn0.specs.Logarithm.{tenLog10}
-
-abbrev pub none : Float
-none = fin false 0 (pos 0)
 
 abbrev pub two : Float
 two = fin false 1 (pos 1)
@@ -17,7 +15,7 @@ twoMillion = fin false 15625 (pos 7)
 
 -- prompt less noise, or 0 where that is negative or NaN; a zero keeps its sign
 unfoldable pub signalOf : Float → Float
-signalOf d = cond (isNan d || lt d none) none d
+signalOf d = cond (isNan d || lt d zeroF) zeroF d
 
 -- the logarithm of x = (signal / noise) * 2,000,000, where the noise is twice the noise power
 unfoldable pub cn0Of : Float → Float → Float

@@ -1,3 +1,3 @@
 pub mod Logarithm
 pub mod Estimate
-pub mod Apart
+pub mod Inner

@@ -5,7 +5,7 @@ ghost use lib.Dec.{T};
 ghost use lib.Ieee.{binary32, inFloat};
 ghost use lib.Ieee.Positive.{positive};
 ghost use Rattle.cn0.specs.Logarithm.{digits, logSteps};
-ghost use Rattle.cn0.specs.Apart.{Placed};
+ghost use Rattle.cn0.specs.Inner.{Placed};
 
 // Where the leading digit stands, counted from 1 at 2^-149, and the digits as a number in [2^31, 2^32).
 pub struct Parts {

@@ -16,7 +16,7 @@ use borrow.Author.Tests.{lt-ltb, eq-eqb}
 use lib.Dec.{ltb, lit<}
 use lib.ListN.{length, getD, set, length-append}
 use lib.Ieee.{Float, lt, nan}
-use Rattle.lists.specs.Bits.{bitAt, value, packed}
+use Rattle.lists.specs.Bits.{asBit, bitAt, value, packed}
 use Rattle.lists.proofs.Table.{Done, done-more, done-all, length-tabulate, getD-tabulate}
 use Rattle.lists.proofs.Bits.{bitAt-packed}
 use Rattle.math.specs.declared.Complex.{Complex}
@@ -24,7 +24,7 @@ use Rattle.math.specs.Complex.{normOf}
 use Rattle.place.specs.declared.Slicer.{Slicer}
 use Rattle.place.specs.declared.Slicer.the-variants.{Coherent, Noncoherent}
 use Rattle.kernels.specs.Symbols.{complexAt}
-use Rattle.kernels.specs.Slices.{greaterBy, asBit, slicedBit, sliced, streamsOf, demodulated}
+use Rattle.kernels.specs.Slices.{greaterBy, slicedBit, sliced, streamsOf, demodulated}
 use Rattle.kernels.specs.Inner.{normsOf, bitsInTurn}
 
 pub bit-inside : (slicer : Slicer) (row : List Float) (stream i : ℕ) {z w : Complex} {t : Bool} → 2 * i + stream + 1 < 288

@@ -2,13 +2,12 @@
 -- Assumes nothing.
 use mathlib.Core.List.{List}
 use mathlib.Core.Bool.{cond}
-use mathlib.Core.Option.{none, some}
 use Prim.Native.Nat.{ℕ, _+_, _-_, _*_}
 use lib.Dec.{eqb}
 use lib.ListN.{length}
 use lib.Ieee.{Float}
 use Rattle.lists.specs.Bits.{bitAt}
-use Rattle.lists.specs.Told.{Told, tell}
+use Rattle.lists.specs.Told.{Told, done, refused, tell}
 use Rattle.math.specs.Complex.{plusOf, normOf}
 use Rattle.math.specs.Sum.{total}
 use Rattle.kernels.specs.Symbols.{complexAt}
@@ -45,8 +44,8 @@ powerNumber floats xs message =
 
 -- an answer: its number, and the power with number 0
 abbrev pub powerTold : Power → Told Float
-powerTold (Is p) = (0, some p)
-powerTold (Refused n) = (n, none)
+powerTold (Is p) = done p
+powerTold (Refused n) = refused n
 
 -- what `postdecode_power` answers: 224 symbols, 14 bytes
 unfoldable pub powerAt : List Float → List ℕ → Told Float

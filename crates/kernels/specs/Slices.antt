@@ -1,12 +1,12 @@
 -- Slicing: what `demodulate` answers.
 -- Assumes nothing.
 use mathlib.Core.List.{List, _++_}
-use mathlib.Core.Bool.{Bool, true, false, cond}
+use mathlib.Core.Bool.{Bool, cond}
 use Prim.Native.Nat.{ℕ, _+_, _*_}
 use lib.Dec.{eqb, ltb}
 use lib.ListN.{length}
 use lib.Ieee.{Float, lt}
-use Rattle.lists.specs.Bits.{packed}
+use Rattle.lists.specs.Bits.{asBit, packed}
 use Rattle.math.specs.declared.Complex.{Complex}
 use Rattle.math.specs.Complex.{normOf}
 use Rattle.place.specs.declared.Slicer.{Slicer}
@@ -17,11 +17,6 @@ use Rattle.kernels.specs.Symbols.{complexAt}
 abbrev pub greaterBy : Slicer → Complex → Complex → Bool
 greaterBy Coherent a b = lt (b .re) (a .re)
 greaterBy Noncoherent a b = lt (normOf b) (normOf a)
-
--- a truth as a bit
-abbrev pub asBit : Bool → ℕ
-asBit true = 1
-asBit false = 0
 
 -- bit i of a stream compares symbols 2i + stream and 2i + stream + 1 of a row; it is 0 where there is no second
 unfoldable pub slicedBit : Slicer → List Float → ℕ → ℕ → ℕ

@@ -5,8 +5,9 @@ use place::Slicer;
 ghost use mathlib.Core.Path.{_≡_};
 ghost use Prim.Native.Nat.{_*_, _<_, _≤_};
 ghost use lib.ListN.{length};
+ghost use Rattle.lists.specs.Bits.{asBit};
 ghost use Rattle.place.specs.declared.Slicer.the-variants.{Coherent, Noncoherent};
-ghost use Rattle.kernels.specs.Slices.{asBit, streamsOf, demodulated};
+ghost use Rattle.kernels.specs.Slices.{streamsOf, demodulated};
 ghost use Rattle.kernels.specs.Inner.{normsOf, bitsInTurn, apartOf, joined, bytesOf};
 
 // A truth as a bit.

@@ -3,7 +3,10 @@ use annex10::Repairs;
 use mode_s::header::Validity;
 use mode_s::header::header_is_valid;
 ghost use mathlib.Core.Path.{_≡_};
-ghost use Rattle.khlongrae.specs.Headers.{checkedHeader, refusedHeader, headerCheck};
+ghost use Rattle.lists.specs.Told.{refused};
+ghost use Rattle.annex10.specs.Header.{longHeader};
+ghost use Rattle.mode_s.specs.Header.{headerOf};
+ghost use Rattle.khlongrae.specs.Headers.{flatHeader, headerCheck};
 
 #[repr(C)]
 pub struct FlatHeader {
@@ -12,13 +15,13 @@ pub struct FlatHeader {
 }
 
 fn refused(number: u32) -> FlatHeader
-    ensures { λ r. ⌜ r ≡ refusedHeader number ⌝ }
+    ensures { λ r. ⌜ r ≡ flatHeader (refused number) ⌝ }
 {
     FlatHeader { number, valid: 0 }
 }
 
 fn check(first: u8, repairs: Repairs) -> FlatHeader
-    ensures { λ r. ⌜ r ≡ checkedHeader first repairs ⌝ }
+    ensures { λ r. ⌜ r ≡ flatHeader (headerOf 14 longHeader first repairs) ⌝ }
 {
     match header_is_valid(first, repairs) {
         Validity::Valid => FlatHeader {
@@ -37,7 +40,7 @@ fn check(first: u8, repairs: Repairs) -> FlatHeader
 // and k. Refused: 4 a count above 2, 8 a counted position above 111. The positions are wide, so that none is cut to a smaller one.
 #[no_mangle]
 pub extern "C" fn khlongrae_header(first: u8, count: u32, j: u32, k: u32) -> FlatHeader
-    ensures { λ r. ⌜ r ≡ headerCheck first count j k ⌝ }
+    ensures { λ r. ⌜ r ≡ flatHeader (headerCheck first count j k) ⌝ }
 {
     if count > 2 {
         return refused(4);

@@ -17,7 +17,7 @@ module _ {A : Type 0} where
   length-from : (f : ℕ → A) (k n : ℕ) → length (from f k n) ≡ n
   unfolding from
   length-from f k zero = refl
-  length-from f k (suc n) = ap suc (length-from f (suc k) n)
+  length-from f k (suc n) = ap suc (length-from f _ n)
 
   getD-from : (f : ℕ → A) (k n i : ℕ) (d : A) → i < n → getD (from f k n) i d ≡ f (k + i)
   unfolding from

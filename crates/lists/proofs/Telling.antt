@@ -1,12 +1,13 @@
 -- Laws of answers in the rules' words.
 --     told-refused   with a number that is not 0 there are no values
 --     told-done      with number 0 there are
+--     told-number    the number is the one that was told
 --     told-values    the values of an answer with number 0
 --     same-values    the same is told of two only if their values are the same
 --     not-done       no refusal tells values
 -- Assumes nothing.
 use mathlib.Core.Path.{_≡_, refl, ap}
-use mathlib.Core.Option.{Option, none, some}
+use mathlib.Core.Option.{none, some}
 use Prim.Native.Nat.{ℕ, zero, suc}
 use native.Mathlib.Omega.{arith}
 use Rattle.lists.specs.Told.{Told, done, refused, tell}
@@ -18,6 +19,10 @@ module _ {A : Type 0} (v : A) where
 
   pub told-done : {n m : ℕ} → n ≡ m → n ≡ 0 → _≡_ {A = Told A} (done v) (tell m v)
   told-done e z = rw (← e, z)
+
+  pub told-number : (n : ℕ) → tell n v .0 ≡ n
+  told-number zero = refl
+  told-number (suc n) = refl
 
   pub told-values : (n : ℕ) {x : A} → tell n v ≡ done x → v ≡ x
   told-values zero e = let s = ap (λ (t : Told A). t .1) e in cc

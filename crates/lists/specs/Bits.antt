@@ -1,9 +1,15 @@
 -- Bits and bytes: the first bit is the top bit of byte 0.
 -- Assumes nothing.
+use mathlib.Core.Bool.{Bool, true, false}
 use mathlib.Core.List.{List}
 use Prim.Native.Nat.{ℕ, zero, suc, _+_, _-_, _*_, _/_, _%_, _^_}
 use lib.ListN.{getD}
 use Rattle.lists.specs.From.{tabulate}
+
+-- a truth as a bit
+abbrev pub asBit : Bool → ℕ
+asBit true = 1
+asBit false = 0
 
 -- bit j of a string of bytes
 unfoldable pub bitAt : List ℕ → ℕ → ℕ

@@ -4,10 +4,11 @@ use mathlib.Core.Path.{_≡_, refl, sym}
 use mathlib.Core.Bool.{true, false, true≢false}
 use lib.Ieee.{Float, nan, inf, fin, binary32, ofBits, div, neg, lt}
 use lib.Ieee.Scale.{finite}
+use Rattle.floats.specs.Zero.{zeroF}
 
 -- 1.0 / 0.0
 abbrev above : Float
-above = div binary32 (ofBits binary32 0x3F800000) (ofBits binary32 0)
+above = div binary32 (ofBits binary32 0x3F800000) zeroF
 
 pub finite-high : (x : Float) → lt x above ≡ false → false ≡ finite x
 unfolding lt div ofBits

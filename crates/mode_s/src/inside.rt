@@ -1,12 +1,12 @@
 // Whether positions lie in a message.
 use annex10::Repairs;
 ghost use mathlib.Core.Path.{_≡_};
-ghost use Prim.Native.Nat.{_*_, _≤_};
+ghost use Prim.Native.Nat.{_*_, _<_};
 ghost use lib.Dec.{ltb};
 ghost use Rattle.annex10.specs.Repair.{inside};
 
 fn lies_inside(bytes: u8, j: u8) -> bool
-    requires { ⌜ bytes ≤ 14 ⌝ }
+    requires { ⌜ bytes < 32 ⌝ }
     ensures { λ r. ⌜ r ≡ ltb j (8 * bytes) ⌝ }
 {
     j < 8 * bytes
@@ -14,7 +14,7 @@ fn lies_inside(bytes: u8, j: u8) -> bool
 
 // Whether the positions are those of so many bytes.
 pub fn lie_inside(bytes: u8, repairs: Repairs) -> bool
-    requires { ⌜ bytes ≤ 14 ⌝ }
+    requires { ⌜ bytes < 32 ⌝ }
     ensures { λ r. ⌜ r ≡ inside bytes repairs ⌝ }
 {
     match repairs {

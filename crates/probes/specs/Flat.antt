@@ -1,46 +1,41 @@
 -- The answers of the probes, flat: number 0 with the value, or a refusal's number with 0.
 -- Assumes nothing.
-use mathlib.Core.Bool.{cond}
+use mathlib.Core.Bool.{Bool, cond}
+use mathlib.Core.List.{List}
+use mathlib.Core.Option.{none, some}
 use Prim.Native.Nat.{ℕ}
 use lib.Dec.{eqb}
+use lib.ListN.{length}
+use lib.Ieee.{Float}
+use Rattle.lists.specs.Bits.{asBit}
+use Rattle.lists.specs.Told.{Told, refused, andThen}
 use Rattle.floats.specs.Zero.{zeroF}
 use Rattle.annex10.specs.declared.Repairs.{Repairs}
 use Rattle.annex10.specs.declared.Repairs.the-variants.{None, One, Two}
 use Rattle.annex10.specs.declared.Found.{Found}
 use Rattle.annex10.specs.declared.Found.the-variants.{At, Nothing}
-use Rattle.kernels.specs.declared.power.Power.{Power}
-use Rattle.kernels.specs.declared.power.Power.the-variants as power
-use Rattle.streams.specs.declared.crc.Crc.{Crc}
-use Rattle.streams.specs.declared.crc.Crc.the-variants as crc
-use Rattle.streams.specs.declared.distance.Distance.{Distance}
-use Rattle.streams.specs.declared.distance.Distance.the-variants as distance
-use Rattle.mode_s.specs.declared.header.Validity.{Validity}
-use Rattle.mode_s.specs.declared.header.Validity.the-variants as header
+use Rattle.mode_s.specs.Counted.{countedRepairs}
+use Rattle.streams.specs.Headers.{validityAt}
 use Rattle.probes.specs.declared.samples.FlatPower.{FlatPower}
 use Rattle.probes.specs.declared.bits.FlatNumber.{FlatNumber}
 use Rattle.probes.specs.declared.tables.FlatFound.{FlatFound}
 
-abbrev pub flatPower : Power → FlatPower
-flatPower (power.Is p) = record { number = 0; power = p }
-flatPower (power.Refused n) = record { number = n; power = zeroF }
+abbrev pub flatPower : Told Float → FlatPower
+flatPower (n, some p) = record { number = n; power = p }
+flatPower (n, none) = record { number = n; power = zeroF }
 
-abbrev pub flatCrc : Crc → FlatNumber
-flatCrc (crc.Is r) = record { number = 0; value = r }
-flatCrc (crc.Refused n) = record { number = n; value = 0 }
+abbrev pub flatNumber : Told ℕ → FlatNumber
+flatNumber (n, some v) = record { number = n; value = v }
+flatNumber (n, none) = record { number = n; value = 0 }
 
-abbrev pub flatDistance : Distance → FlatNumber
-flatDistance (distance.Is d) = record { number = 0; value = d }
-flatDistance (distance.Refused n) = record { number = n; value = 0 }
+-- 1 for yes
+abbrev pub flatTruth : Told Bool → FlatNumber
+flatTruth (n, some t) = record { number = n; value = asBit t }
+flatTruth (n, none) = record { number = n; value = 0 }
 
--- 1 for a header that is taken
-abbrev pub flatValidity : Validity → FlatNumber
-flatValidity header.Valid = record { number = 0; value = 1 }
-flatValidity header.Invalid = record { number = 0; value = 0 }
-flatValidity (header.Refused n) = record { number = n; value = 0 }
-
--- no repair for 0, one for 1, two for any other count
-unfoldable pub repairsOf : ℕ → ℕ → ℕ → Repairs
-repairsOf count j k = cond (eqb count 0) None (cond (eqb count 1) (One j) (Two j k))
+-- the header of the message at a bit offset, with `count` positions repaired: a stream has 18 bytes, else 2, before 4 for the count
+unfoldable pub countedValidity : List ℕ → ℕ → ℕ → ℕ → ℕ → Told Bool
+countedValidity bytes offset count j k = cond (eqb (length bytes) 18) (andThen (countedRepairs count j k) (validityAt bytes offset)) (refused 2)
 
 -- the count and the positions, zeros where there are none
 abbrev pub flatRepairs : Repairs → FlatFound

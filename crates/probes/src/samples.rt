@@ -7,7 +7,7 @@ use kernels::symbols::accumulate_symbols;
 ghost use mathlib.Core.Path.{_≡_};
 ghost use Rattle.kernels.specs.Symbols.{accumulated};
 ghost use Rattle.kernels.specs.Slices.{demodulated};
-ghost use Rattle.kernels.specs.Powers.{powerAt, noiseAt};
+ghost use Rattle.kernels.specs.Powers.{powerTold, powerAt, noisePowerAt};
 ghost use Rattle.cn0.specs.Estimate.{cn0Of};
 ghost use Rattle.math.specs.Parabola.{parabola};
 ghost use Rattle.probes.specs.Flat.{flatPower};
@@ -33,7 +33,7 @@ pub extern "C" fn probe_streams(row: &[f32], coherent: &mut [u8], noncoherent: &
 }
 
 fn flat(power: Power) -> FlatPower
-    ensures { λ r. ⌜ r ≡ flatPower power ⌝ }
+    ensures { λ r. ⌜ r ≡ flatPower (powerTold power) ⌝ }
 {
     match power {
         Power::Is(power) => FlatPower { number: 0, power },
@@ -50,7 +50,7 @@ pub extern "C" fn probe_power(symbols: &[f32], message: &[u8]) -> FlatPower
 
 #[no_mangle]
 pub extern "C" fn probe_noise_power(samples: &[f32], message: &[u8]) -> FlatPower
-    ensures { λ r. ⌜ r ≡ flatPower (noiseAt (now (samples .entry)) (now (message .entry))) ⌝ }
+    ensures { λ r. ⌜ r ≡ flatPower (noisePowerAt (now (samples .entry)) (now (message .entry))) ⌝ }
 {
     flat(postdecode_noise_power(samples, message))
 }

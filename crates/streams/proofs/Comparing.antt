@@ -1,23 +1,24 @@
 -- Laws of the bit distance.
+--     byte-le           two bytes differ in at most eight bits
 --     byte-more         one more byte of each is compared
 --     differing-le      at most all positions differ
 --     distance-         the answers: refused, done
 -- Assumes nothing.
 use mathlib.Core.Path.{_≡_, refl, sym, _∙_}
 use mathlib.Core.List.{List}
-use mathlib.Core.Option.{none, some}
 use mathlib.Core.Bool.{Bool, true, false, cond}
-use Prim.Native.Nat.{ℕ, zero, suc, _+_, _*_, _/_, _%_, _<_, _≤_}
+use Prim.Native.Nat.{ℕ, zero, suc, _+_, _*_, _/_, _%_, _^_, _<_, _≤_}
 use native.Mathlib.Nat.{add-zero, add-suc}
 use native.Mathlib.Omega.{arith}
 use borrow.Author.Tests.{eq-eqb, ne-eqb}
-use lib.Bits.{bitXor, differ, xor-step}
-use lib.Count.{ones, ones-step}
+use lib.Bits.{bitXor, differ, xor-step, xor-lt}
+use lib.Count.{ones, ones-step, ones-le}
 use lib.Dec.{eqb}
 use lib.ListN.{length}
 use Rattle.lists.specs.Bits.{bitAt, value}
+use Rattle.lists.specs.Told.{done, refused}
 use Rattle.lists.proofs.Telling.{told-refused}
-use Rattle.lists.proofs.Bits.{bitAt-lt}
+use Rattle.lists.proofs.Bits.{bitAt-lt, value-lt}
 use Rattle.streams.specs.Streams.{messageAt, streamNumber}
 use Rattle.streams.specs.Distances.{differing, pairNumber, distanceAt}
 use Rattle.streams.proofs.Reading.{message-value, stream-done}
@@ -77,6 +78,13 @@ module _ (x y : List ℕ) where
       let m : (bitXor v w * 2 + unlike p q) % 2 ≡ unlike p q = omega arith in
       rw (s, ones-step (bitXor v w * 2 + unlike p q), h, m, ones-span j n) (omega arith)
 
+-- two bytes differ in at most eight bits
+pub byte-le : (a b : List ℕ) (i j : ℕ) {x y : ℕ} → x ≡ value (bitAt a) i 8 → y ≡ value (bitAt b) j 8 → ones (bitXor x y) ≤ 8
+byte-le a b i j {x} {y} ex ey =
+    let lx : x < 2 ^ 8 = rw ex (value-lt (bitAt a) (λ k. bitAt-lt a k refl) i 8) in
+    let ly : y < 2 ^ 8 = rw ey (value-lt (bitAt b) (λ k. bitAt-lt b k refl) j 8) in
+    ones-le 8 (bitXor x y) (xor-lt 8 x y lx ly)
+
 pub byte-more : (a b : List ℕ) (n o k : ℕ) {x y d : ℕ} → k < n → x ≡ value (bitAt a) (o + 8 * k) 8 → y ≡ value (bitAt b) (o + 8 * k) 8
     → d ≡ differing (messageAt a n o) (messageAt b n o) (8 * k)
     → d + ones (bitXor x y) ≡ differing (messageAt a n o) (messageAt b n o) (8 * (k + 1))
@@ -89,15 +97,15 @@ byte-more a b n o k h ex ey ed =
 -- ---- the answers
 
 module _ (a b : List ℕ) (offset : ℕ) where
-  pub distance-short : (length a ≡ 18 → ⊥) → (2, none) ≡ distanceAt a b offset
+  pub distance-short : (length a ≡ 18 → ⊥) → refused 2 ≡ distanceAt a b offset
   unfolding distanceAt pairNumber
   distance-short h = rw (ne-eqb _ _ h)
 
-  pub distance-refused : {n : ℕ} → length a ≡ 18 → n ≡ streamNumber b offset → (n ≡ 0 → ⊥) → (n, none) ≡ distanceAt a b offset
+  pub distance-refused : {n : ℕ} → length a ≡ 18 → n ≡ streamNumber b offset → (n ≡ 0 → ⊥) → refused n ≡ distanceAt a b offset
   unfolding distanceAt pairNumber
   distance-refused l e h = rw (eq-eqb _ _ l) (told-refused (differing (messageAt a 14 offset) (messageAt b 14 offset) 112) e h)
 
   pub distance-done : length a ≡ 18 → length b ≡ 18 → offset ≤ 32
-      → distanceAt a b offset ≡ (0, some (differing (messageAt a 14 offset) (messageAt b 14 offset) 112))
+      → distanceAt a b offset ≡ done (differing (messageAt a 14 offset) (messageAt b 14 offset) 112)
   unfolding distanceAt pairNumber
   distance-done l m o = rw (eq-eqb _ _ l, stream-done b offset m o)

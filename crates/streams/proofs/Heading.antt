@@ -4,12 +4,11 @@
 use mathlib.Core.Path.{_≡_, sym, ap, _∙_}
 use mathlib.Core.Bool.{Bool}
 use mathlib.Core.List.{List}
-use mathlib.Core.Option.{none}
 use Prim.Native.Nat.{ℕ, _≤_}
 use lib.Dec.{lit<}
 use lib.ListN.{length, getD}
 use Rattle.lists.specs.Bits.{bitAt, value}
-use Rattle.lists.specs.Told.{Told, andThen}
+use Rattle.lists.specs.Told.{Told, refused, andThen}
 use Rattle.lists.proofs.Telling.{told-refused}
 use Rattle.annex10.specs.Header.{longHeader}
 use Rattle.annex10.specs.declared.Repairs.{Repairs}
@@ -19,7 +18,7 @@ use Rattle.streams.specs.Headers.{validityAt}
 use Rattle.streams.proofs.Reading.{message-head, stream-done}
 
 module _ (bytes : List ℕ) (offset : ℕ) (ρ : Repairs) where
-  pub validity-refused : {n : ℕ} → n ≡ streamNumber bytes offset → (n ≡ 0 → ⊥) → (n, none) ≡ validityAt bytes offset ρ
+  pub validity-refused : {n : ℕ} → n ≡ streamNumber bytes offset → (n ≡ 0 → ⊥) → refused n ≡ validityAt bytes offset ρ
   unfolding validityAt
   validity-refused e h =
       ap (λ (t : Told ℕ). andThen t (λ (b : ℕ). headerOf 14 longHeader b ρ)) (told-refused (getD (messageAt bytes 14 offset) 0 0) e h)

@@ -7,7 +7,6 @@
 -- Assumes nothing.
 use mathlib.Core.Path.{_≡_, refl, sym, ap, _∙_}
 use mathlib.Core.List.{List}
-use mathlib.Core.Option.{none, some}
 use mathlib.Core.Bool.{Bool, true, false, cond}
 use Prim.Native.Nat.{ℕ, zero, suc, _+_, _*_, _<_, _≤_}
 use native.Mathlib.Nat.{add-zero}
@@ -16,6 +15,7 @@ use borrow.Author.Tests.{eqb-true, leb-true, eq-eqb, le-leb}
 use lib.Dec.{eqb, leb}
 use lib.ListN.{length, getD, replicate}
 use Rattle.lists.specs.Bits.{bitAt, value, packed}
+use Rattle.lists.specs.Told.{done, refused}
 use Rattle.lists.proofs.Table.{length-tabulate, getD-tabulate}
 use Rattle.lists.proofs.Telling.{told-refused}
 use Rattle.lists.proofs.Bits.{bitAt-lt, bitAt-packed, value-later}
@@ -80,10 +80,10 @@ module _ (bytes : List ℕ) (offset : ℕ) where
   unfolding extracted
   extracted-done a b = rw (stream-done bytes offset a b)
 
-  pub crc-refused : {n : ℕ} → n ≡ streamNumber bytes offset → (n ≡ 0 → ⊥) → (n, none) ≡ crcAt bytes offset
+  pub crc-refused : {n : ℕ} → n ≡ streamNumber bytes offset → (n ≡ 0 → ⊥) → refused n ≡ crcAt bytes offset
   unfolding crcAt
   crc-refused = told-refused (remainder (messageAt bytes 14 offset))
 
-  pub crc-done : length bytes ≡ 18 → offset ≤ 32 → crcAt bytes offset ≡ (0, some (remainder (messageAt bytes 14 offset)))
+  pub crc-done : length bytes ≡ 18 → offset ≤ 32 → crcAt bytes offset ≡ done (remainder (messageAt bytes 14 offset))
   unfolding crcAt
   crc-done a b = rw (stream-done bytes offset a b)

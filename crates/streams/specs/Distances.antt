@@ -2,12 +2,11 @@
 -- Assumes nothing.
 use mathlib.Core.List.{List}
 use mathlib.Core.Bool.{cond}
-use mathlib.Core.Option.{none, some}
 use Prim.Native.Nat.{ℕ, zero, suc, _+_}
 use lib.Dec.{eqb}
 use lib.ListN.{length}
 use Rattle.lists.specs.Bits.{bitAt}
-use Rattle.lists.specs.Told.{Told, tell}
+use Rattle.lists.specs.Told.{Told, done, refused, tell}
 use Rattle.streams.specs.declared.distance.Distance.{Distance}
 use Rattle.streams.specs.declared.distance.Distance.the-variants.{Is, Refused}
 use Rattle.streams.specs.Streams.{messageAt, streamNumber}
@@ -23,8 +22,8 @@ pairNumber a b offset = cond (eqb (length a) 18) (streamNumber b offset) 2
 
 -- an answer: its number, and the distance with number 0
 abbrev pub distanceTold : Distance → Told ℕ
-distanceTold (Is d) = (0, some d)
-distanceTold (Refused n) = (n, none)
+distanceTold (Is d) = done d
+distanceTold (Refused n) = refused n
 
 -- in how many of the 112 positions the messages of two streams at a bit offset differ
 unfoldable pub distanceAt : List ℕ → List ℕ → ℕ → Told ℕ

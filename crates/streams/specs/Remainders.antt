@@ -1,9 +1,8 @@
 -- What `compute_crc` answers.
 -- Assumes nothing.
 use mathlib.Core.List.{List}
-use mathlib.Core.Option.{none, some}
 use Prim.Native.Nat.{ℕ}
-use Rattle.lists.specs.Told.{Told, tell}
+use Rattle.lists.specs.Told.{Told, done, refused, tell}
 use Rattle.annex10.specs.Remainder.{remainder}
 use Rattle.streams.specs.declared.crc.Crc.{Crc}
 use Rattle.streams.specs.declared.crc.Crc.the-variants.{Is, Refused}
@@ -11,8 +10,8 @@ use Rattle.streams.specs.Streams.{messageAt, streamNumber}
 
 -- an answer: its number, and the remainder with number 0
 abbrev pub crcTold : Crc → Told ℕ
-crcTold (Is r) = (0, some r)
-crcTold (Refused n) = (n, none)
+crcTold (Is r) = done r
+crcTold (Refused n) = refused n
 
 -- the remainder of the message at a bit offset
 unfoldable pub crcAt : List ℕ → ℕ → Told ℕ

@@ -1,6 +1,6 @@
 -- `carrier::metric::bin_fraction` meets its contract: the three bins are there. Assumes nothing.
 use Rattle.carrier.specs.Peaks.{binAt}
-use Rattle.carrier.specs.Carriers.{fractionOf}
+use Rattle.carrier.specs.Carriers.{binFraction}
 use borrow.Author.Needs.{needs}
 use Rattle.carrier.proofs.metric.bin_fraction.Statement.{statement}
 use Rattle.carrier.proofs.metric.bin_fraction.Tie as tie
@@ -33,7 +33,7 @@ parabolic-interpolation-requires : tie.Need-parabolic-interpolation-requires
 parabolic-interpolation-requires c κs = search needs
 
 returns : tie.Need-returns
-unfolding fractionOf binAt
+unfolding binFraction binAt
 returns c = c .parabolic-interpolation .ensures
 
 pub bin-fraction-spec : {M : Type 1} → statement M

@@ -1,5 +1,6 @@
 -- `khlongrae::spectrum::khlongrae_check_carrier_metric` meets its contract, by cases of the answer. Assumes nothing.
 use mathlib.Core.Path.{sym, ap, _∙_}
+use Rattle.carrier.specs.Carriers.{carrierTold}
 use Rattle.khlongrae.specs.Carriers.{flatCarrier}
 use borrow.Author.Needs.{needs}
 use Rattle.khlongrae.proofs.spectrum.khlongrae_check_carrier_metric.Statement.{statement}
@@ -18,13 +19,13 @@ enum-known-number : tie.Need-enum-known-number
 enum-known-number c = search needs
 
 returns : tie.Need-returns
-returns c = ap flatCarrier (sym (c .before .bin .given .1) ∙ c .before .before .before .check-carrier-metric .ensures)
+returns c = ap flatCarrier (ap carrierTold (sym (c .before .bin .given .1)) ∙ c .before .before .before .check-carrier-metric .ensures)
 
 returns-2 : tie.Need-returns-2
-returns-2 c = ap flatCarrier (sym (c .before .value .given .1) ∙ c .before .before .before .check-carrier-metric .ensures)
+returns-2 c = ap flatCarrier (ap carrierTold (sym (c .before .value .given .1)) ∙ c .before .before .before .check-carrier-metric .ensures)
 
 returns-3 : tie.Need-returns-3
-returns-3 c = ap flatCarrier (sym (c .before .number .given .1) ∙ c .before .before .before .check-carrier-metric .ensures)
+returns-3 c = ap flatCarrier (ap carrierTold (sym (c .before .number .given .1)) ∙ c .before .before .before .check-carrier-metric .ensures)
 
 pub khlongrae-check-carrier-metric-spec : {M : Type 1} → statement M
 khlongrae-check-carrier-metric-spec =

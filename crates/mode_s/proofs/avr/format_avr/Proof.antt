@@ -7,7 +7,6 @@ use mathlib.Core.Path.{_≡_, sym, ap, _∙_}
 use native.Mathlib.Omega.{arith}
 use lib.ListN.{length, length-set}
 use borrow.Author.Needs.{needs}
-use borrow.Author.Tests.{eq-eqb, ne-eqb, not-true, not-false}
 use Rattle.lists.proofs.Table.{Done, done-none, done-more, done-all}
 use Rattle.mode_s.specs.Avr.{avrLine}
 use Rattle.mode_s.specs.Inner.{avrByte}

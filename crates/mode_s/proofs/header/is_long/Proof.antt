@@ -4,7 +4,6 @@ use Rattle.mode_s.proofs.Codes.{or-none, capability, control}
 use Prim.Native.Nat.{_/_}
 use mathlib.Core.Path.{_≡_, _∙_}
 use borrow.Author.Tests.{ne-eqb}
-use mathlib.Core.Path.{_≡_, _∙_}
 use native.Mathlib.Omega.{arith}
 use Rattle.annex10.specs.Header.{longHeader}
 use borrow.Author.Needs.{needs}

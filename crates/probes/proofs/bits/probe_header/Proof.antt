@@ -1,52 +1,62 @@
--- `probes::bits::probe_header` meets its contract, by cases of the answer. Assumes nothing.
-use mathlib.Core.Path.{_≡_, sym, ap, _∙_}
+-- `probes::bits::probe_header` meets its contract, exit by exit. Assumes nothing.
+use mathlib.Core.Path.{_≡_, _∙_}
 use mathlib.Core.List.{List}
-use Prim.Native.Nat.{ℕ}
+use Prim.Native.Nat.{ℕ, _<_}
+use borrow.Author.Tests.{eq-eqb, ne-eqb, lt-leb}
+use lib.ListN.{length}
+use Rattle.lists.specs.Told.{done, refused}
 use Rattle.annex10.specs.declared.Repairs.{Repairs}
-use Rattle.mode_s.specs.declared.header.Validity.{Validity}
+use Rattle.mode_s.specs.Counted.{countedRepairs}
 use Rattle.streams.specs.Headers.{validityAt}
-use Rattle.probes.specs.Flat.{flatValidity}
+use Rattle.probes.specs.declared.bits.FlatNumber.{FlatNumber}
+use Rattle.probes.specs.Flat.{flatTruth, countedValidity}
 use borrow.Author.Needs.{needs}
 use Rattle.probes.proofs.bits.probe_header.Statement.{statement}
 use Rattle.probes.proofs.bits.probe_header.Tie as tie
 
--- the answer for the repairs that were asked for
-asked : (bytes : List ℕ) (offset : ℕ) {v : Validity} {ρ σ : Repairs} → v ≡ validityAt bytes offset ρ → ρ ≡ σ → v ≡ validityAt bytes offset σ
-asked bytes offset e f = e ∙ ap (validityAt bytes offset) f
+module _ (bytes : List ℕ) (offset count j k : ℕ) {x : FlatNumber} where
+  short : (length bytes ≡ 18 → ⊥) → x ≡ flatTruth (refused 2) → x ≡ flatTruth (countedValidity bytes offset count j k)
+  unfolding countedValidity
+  short l e = e ∙ rw (ne-eqb _ _ l)
 
-repairs-of-requires : tie.Need-repairs-of-requires
-repairs-of-requires c κs = search needs
+  miscounted : length bytes ≡ 18 → 2 < count → x ≡ flatTruth (refused 4) → x ≡ flatTruth (countedValidity bytes offset count j k)
+  unfolding countedValidity countedRepairs
+  miscounted l h e = e ∙ rw (eq-eqb _ _ l, lt-leb _ _ h)
 
-df-is-valid-extended-squitter-requires : tie.Need-df-is-valid-extended-squitter-requires
-df-is-valid-extended-squitter-requires c κs = search needs
+  checked : {ρ : Repairs} → length bytes ≡ 18 → done ρ ≡ countedRepairs count j k → x ≡ flatTruth (validityAt bytes offset ρ)
+      → x ≡ flatTruth (countedValidity bytes offset count j k)
+  unfolding countedValidity
+  checked l r e = e ∙ rw (eq-eqb _ _ l, ← r)
 
-enum-told : tie.Need-enum-told
-enum-told c = search needs
-
-enum-told-2 : tie.Need-enum-told-2
-enum-told-2 c = search needs
-
-enum-known-number : tie.Need-enum-known-number
-enum-known-number c = search needs
+refused-requires : tie.Need-refused-requires
+refused-requires c κs = search needs
 
 returns : tie.Need-returns
-returns c = ap flatValidity (sym (c .enum-told .given .1) ∙ asked _ _ (c .before .before .df-is-valid-extended-squitter .ensures) (c .before .before .before .repairs-of .ensures))
+returns c = short _ _ _ _ _ (c .before .if1 .taken) (c .refused .ensures)
+
+refused-requires-2 : tie.Need-refused-requires-2
+refused-requires-2 c κs = search needs
 
 returns-2 : tie.Need-returns-2
-returns-2 c = ap flatValidity (sym (c .enum-told2 .given .1) ∙ asked _ _ (c .before .before .df-is-valid-extended-squitter .ensures) (c .before .before .before .repairs-of .ensures))
+returns-2 c = miscounted _ _ _ _ _ (c .before .before .if1 .left) (c .before .if2 .taken) (c .refused2 .ensures)
+
+counted-repairs-requires : tie.Need-counted-repairs-requires
+counted-repairs-requires c κs = search needs
+
+check-requires : tie.Need-check-requires
+check-requires c κs = search needs
 
 returns-3 : tie.Need-returns-3
-returns-3 c = ap flatValidity (sym (c .before .number .given .1) ∙ asked _ _ (c .before .before .before .df-is-valid-extended-squitter .ensures) (c .before .before .before .before .repairs-of .ensures))
+returns-3 c = checked _ _ _ _ _ (c .before .before .before .if1 .left) (c .before .counted-repairs .ensures) (c .check .ensures)
 
 pub probe-header-spec : {M : Type 1} → statement M
 probe-header-spec =
     tie.close
     (tie.spec
-    repairs-of-requires
-    df-is-valid-extended-squitter-requires
-    enum-told
-    enum-told-2
-    enum-known-number
+    refused-requires
     returns
+    refused-requires-2
     returns-2
+    counted-repairs-requires
+    check-requires
     returns-3)

@@ -1,6 +1,7 @@
 -- `probes::bits::probe_remainder` meets its contract, by cases of the answer. Assumes nothing.
 use mathlib.Core.Path.{sym, ap, _∙_}
-use Rattle.probes.specs.Flat.{flatCrc}
+use Rattle.streams.specs.Remainders.{crcTold}
+use Rattle.probes.specs.Flat.{flatNumber}
 use borrow.Author.Needs.{needs}
 use Rattle.probes.proofs.bits.probe_remainder.Statement.{statement}
 use Rattle.probes.proofs.bits.probe_remainder.Tie as tie
@@ -15,10 +16,10 @@ enum-known-number : tie.Need-enum-known-number
 enum-known-number c = search needs
 
 returns : tie.Need-returns
-returns c = ap flatCrc (sym (c .before .value .given .1) ∙ c .before .before .before .compute-crc .ensures)
+returns c = ap flatNumber (ap crcTold (sym (c .before .value .given .1)) ∙ c .before .before .before .compute-crc .ensures)
 
 returns-2 : tie.Need-returns-2
-returns-2 c = ap flatCrc (sym (c .before .number .given .1) ∙ c .before .before .before .compute-crc .ensures)
+returns-2 c = ap flatNumber (ap crcTold (sym (c .before .number .given .1)) ∙ c .before .before .before .compute-crc .ensures)
 
 pub probe-remainder-spec : {M : Type 1} → statement M
 probe-remainder-spec =

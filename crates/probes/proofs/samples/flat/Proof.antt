@@ -1,5 +1,7 @@
 -- `probes::samples::flat` meets its contract, by cases of the answer. Assumes nothing.
 use mathlib.Core.Path.{sym, ap}
+use Rattle.kernels.specs.declared.power.Power.{Power}
+use Rattle.kernels.specs.Powers.{powerTold}
 use Rattle.probes.specs.Flat.{flatPower}
 use borrow.Author.Needs.{needs}
 use Rattle.probes.proofs.samples.flat.Statement.{statement}
@@ -12,10 +14,10 @@ enum-known-power-2 : tie.Need-enum-known-power-2
 enum-known-power-2 c = search needs
 
 returns : tie.Need-returns
-returns c = ap flatPower (sym (c .before .power .given .1))
+returns c = ap (λ (p : Power). flatPower (powerTold p)) (sym (c .before .power .given .1))
 
 returns-2 : tie.Need-returns-2
-returns-2 c = ap flatPower (sym (c .before .power2 .given .1))
+returns-2 c = ap (λ (p : Power). flatPower (powerTold p)) (sym (c .before .power2 .given .1))
 
 pub flat-spec : {M : Type 1} → statement M
 flat-spec = tie.close (tie.spec enum-known-power enum-known-power-2 returns returns-2)

@@ -4,7 +4,7 @@ use Prim.Native.Nat.{_+_, _*_, _-_, _≤_}
 use native.Mathlib.Omega.{arith}
 use Rattle.streams.specs.Streams.{messageAt}
 use Rattle.streams.specs.Distances.{differing}
-use Rattle.streams.proofs.Comparing.{byte-more, differing-le}
+use Rattle.streams.proofs.Comparing.{byte-le, byte-more, differing-le}
 use borrow.Author.Needs.{needs}
 use Rattle.streams.proofs.distance.differing_bits.Statement.{statement}
 use Rattle.streams.proofs.distance.differing_bits.Tie as tie
@@ -34,11 +34,10 @@ byte-at-requires-2 c κs = search needs
 add-distance : tie.Need-add-distance Inv-loop μ-loop
 add-distance c =
     let args = c .before .before .before .before .before .before .args in
-    let k = c .before .before .before .loop .k in
     omega (
       arith,
-      byte-more (args .a .now) (args .b .now) (args .n) (args .offset) k (c .before .before .loop-test .taken) (c .before .byte-at .ensures) (c .byte-at2 .ensures) (c .before .before .before .loop .inv .1),
-      differing-le (messageAt (args .a .now) (args .n) (args .offset)) (messageAt (args .b .now) (args .n) (args .offset)) (8 * (k + 1)),
+      byte-le _ _ _ _ (c .before .byte-at .ensures) (c .byte-at2 .ensures),
+      differing-le (messageAt (args .a .now) (args .n) (args .offset)) (messageAt (args .b .now) (args .n) (args .offset)) (8 * c .before .before .before .loop .k),
     )
 
 add-k : tie.Need-add-k Inv-loop μ-loop

@@ -1,4 +1,4 @@
--- A positive f32 taken apart, for the code alone.
+-- A positive f32 taken apart, for private functions alone: no public contract cites it.
 -- Assumes nothing.
 use mathlib.Core.Path.{_≡_}
 use Prim.Native.Nat.{ℕ, _^_, _≤_, _<_}

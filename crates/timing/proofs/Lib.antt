@@ -5,4 +5,5 @@ mod Keeping
 pub mod Reach
 mod Reading
 pub mod Laws
+pub mod Moving
 pub mod Cases

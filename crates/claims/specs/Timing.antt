@@ -1,0 +1,31 @@
+-- WHEN THE MESSAGE OF AN ANSWER CAME: its index and its fraction of a sample.
+-- Assumes nothing.
+use mathlib.Core.Path.{_≡_}
+use mathlib.Core.Bool.{true, false}
+use mathlib.Core.List.{List}
+use Prim.Native.Nat.{ℕ, _+_, _-_, _*_, _≤_}
+use lib.IntN.{ℤ, pos, natAbs, _+ℤ_}
+use lib.Ieee.{Float, lt, le, isNan}
+use Rattle.place.specs.Step.{sampleStart}
+use Rattle.timing.specs.Subsample.{halves}
+use Rattle.timing.specs.Exact.{LessBy}
+use Rattle.search.specs.declared.Answer.{Answer}
+use Rattle.search.specs.Seen.{windowOf}
+use Rattle.search.specs.Timed.{fractionAt}
+
+-- the fraction before any sample moves: the parabola about the prompt, held to [-1, 1], plus the offset, minus 0.5
+abbrev pub fractionFor : List Float → Answer → Float
+fractionFor samples a = fractionAt (windowOf 14 samples) (a .message) (sampleStart (a .place))
+
+-- `index` is that of the window's sample 128.
+pub record WellTimed (samples : List Float) (index : ℕ) (a : Answer) : Type 0 where
+  -- so many samples move between the two: the index gains them, and the fraction loses them exactly, with nothing rounded
+  pub moves : ℤ
+  pub few : natAbs moves ≤ 2
+  pub gained : pos (a .index) ≡ pos (index - 128 + 4 * (2 * a .place .bit + a .place .symbol) + a .place .phase) +ℤ moves
+  pub lost : isNan (fractionFor samples a) ≡ false → LessBy moves (fractionFor samples a) (a .fraction)
+  -- the fraction ends in [-0.5, 0.5)
+  pub within : isNan (fractionFor samples a) ≡ false
+      → (le (halves true 1) (a .fraction) ≡ true) × (lt (a .fraction) (halves false 1) ≡ true)
+  -- but a NaN stays, and then nothing moves
+  pub nan-stays : isNan (fractionFor samples a) ≡ true → (isNan (a .fraction) ≡ true) × (moves ≡ pos 0)

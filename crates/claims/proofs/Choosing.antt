@@ -47,8 +47,9 @@ unfolding placeAt
 order-at k = omega arith
 
 module _ (kind : Kind) (s : Settings) (w : Window) (apart : Apart (kind .bytes)) (sized : Sized kind w) {m many : ℕ} (places : Places kind m many) where
-  numbered : (p : Place) → p ∈ kind .places → Numbered placeAt many p
-  numbered p h = number-of placeAt many p (subst (λ (ps : List Place). p ∈ ps) (places .order) h)
+  -- a place that holds something has a number
+  numbered : (p : Place) (z : Slicer) (ρ : Repairs) → Held kind s w p z ρ → Numbered placeAt many p
+  numbered p z ρ h = number-of placeAt many p (subst (λ (ps : List Place). p ∈ ps) (places .order) (h .0))
 
   searched-at : (k : ℕ) → k < many → placeAt k ∈ kind .places
   searched-at k h = subst (λ (ps : List Place). placeAt k ∈ ps) (sym (places .order)) (member-of placeAt many k h)
@@ -84,20 +85,23 @@ module _ (kind : Kind) (s : Settings) (w : Window) (apart : Apart (kind .bytes))
       let f = survives-held kind s w apart sized (placeAt i) a (c .is) .1 in
       record {
         held = held-at i a (c .below) (c .is);
-        fewest = λ q y σ h. let n = numbered q (h .0) in c .fewest (n .number) (candidate w q (readingOf y σ)) (n .below) (at-held q y σ (h .1) n);
+        fewest = λ q y σ h.
+            let n = numbered q y σ h in
+            let k : count (a .repairs) ≤ count σ = c .fewest (n .number) (candidate w q (readingOf y σ)) (n .below) (at-held q y σ (h .1) n) in
+            omega arith;
         greatest = λ q y σ h.
-            let n = numbered q (h .0 .0) in
+            let n = numbered q y σ (h .0) in
             subst (λ (x : Float). lt x (cn0With w q y σ) ≢ true) (f .cn0)
             (c .greatest (n .number) (candidate w q (readingOf y σ)) (n .below) (at-held q y σ (h .0 .1) n, h .1));
         earliest = λ q y σ h l.
-            let n = numbered q (h .0 .0) in
+            let n = numbered q y σ (h .0) in
             subst (λ (x : Float). le x (cn0With w q y σ) ≢ true) (f .cn0)
             (c .earliest (n .number) (candidate w q (readingOf y σ)) (sooner-is q n i l) (at-held q y σ (h .0 .1) n, h .1));
         newcomer = λ z q y σ h l.
-            let n = numbered q (h .0 .0) in
+            let n = numbered q y σ (h .0) in
             c .newcomer (ap isNan (f .cn0) ∙ z) (n .number) (candidate w q (readingOf y σ)) (sooner-is q n i l) (at-held q y σ (h .0 .1) n, h .1);
         holder = λ q y σ h z first.
-            let n = numbered q (h .0 .0) in
+            let n = numbered q y σ (h .0) in
             sym (n .is)
             ∙ ap placeAt
             (c .holder (n .number) (candidate w q (readingOf y σ)) (n .below) (at-held q y σ (h .0 .1) n, h .1) z
@@ -140,10 +144,8 @@ module _ (kind : Kind) (s : Settings) (w : Window) (apart : Apart (kind .bytes))
         | inr h ↦ d .earliest p z ρ (c .held, same) l (so h)
       ]
 
-  one-place : (p q : Place) → p ∈ kind .places → q ∈ kind .places → ¬ Sooner p q → ¬ Sooner q p → p ≡ q
-  one-place p q h g a b =
-      let i = numbered p h in
-      let j = numbered q g in
+  one-place : (p q : Place) → Numbered placeAt many p → Numbered placeAt many q → ¬ Sooner p q → ¬ Sooner q p → p ≡ q
+  one-place p q i j a b =
       let e : orderOf p ≡ i .number + 8 = ap orderOf (sym (i .is)) ∙ order-at (i .number) in
       let f : orderOf q ≡ j .number + 8 = ap orderOf (sym (j .is)) ∙ order-at (j .number) in
       let k : i .number ≡ j .number = elim (decLt (orderOf p) (orderOf q)) [
@@ -154,7 +156,7 @@ module _ (kind : Kind) (s : Settings) (w : Window) (apart : Apart (kind .bytes))
 
   one-chosen : (p q : Place) (z y : Slicer) (ρ σ : Repairs) → Chosen kind s w p z ρ → Chosen kind s w q y σ → (p ≡ q) × (z ≡ y) × (ρ ≡ σ)
   one-chosen p q z y ρ σ c d =
-      let e = one-place p q (c .held .0) (d .held .0) (not-before p q z y ρ σ c d) (not-before q p y z σ ρ d c) in
+      let e = one-place p q (numbered p z ρ (c .held)) (numbered q y σ (d .held)) (not-before p q z y ρ σ c d) (not-before q p y z σ ρ d c) in
       let g : Holds kind s w p y σ = subst (λ (r : Place). Holds kind s w r y σ) (sym e) (d .held .1) in
       let (u, v) = one-first kind s w apart sized p z y ρ σ (c .held .1 .first) (g .first) in
       (e, u, v)

@@ -153,4 +153,4 @@ module _ (samples : List Float) (s : Settings) (index : ℕ) where
 
 -- THE CLAIMS: where the contract `answer ≡ decodeOf samples s index` holds, all of them do
 pub audited : Audited decodeOf
-audited = record { answered = answered; higher = higher }
+audited = record { answered = answered; higher = λ samples s index m z h k. higher samples s index m z (omega arith) k }

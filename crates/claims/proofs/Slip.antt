@@ -82,4 +82,4 @@ module _ (s : Settings) (w : Window) (p : Place) (level : s .level ≡ 2) (c : w
       none-before y σ f (inr h) = let e = h .2 in let z : _≡_ {A = ℕ} 0 1 = cc in omega arith
 
 pub slicer-is-reset : SlicerIsReset
-slicer-is-reset = record { clears = clears-when 14 noncoherent (One 111) (sizes .1) .1 by-noncoherent; reset = two-first }
+slicer-is-reset = record { clears = clears-when 14 noncoherent (One 111) (sizes .1) .1 by-noncoherent; reset = λ s w p l. two-first s w p (omega arith) }

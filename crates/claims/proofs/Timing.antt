@@ -44,10 +44,10 @@ timed samples index c h =
     let p = promptOf w (c .message) start in
     let t = fraction-fits (about w (c .message) p) (p .offset) in
     let r = reaches (about w (c .message) p) (p .offset) in
-    let few = at-most-two f in
+    let two = at-most-two f in
     record {
       moves = moved f;
-      few = few;
+      few = omega arith;
       gained = moved-index index start (moved f) (omega arith) ∙ ap (λ (i : ℕ). pos i +ℤ moved f) (by-hand index (c .place));
       lost = moves-exact f t r;
       within = ends-in-range f t r;

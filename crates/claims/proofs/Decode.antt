@@ -32,6 +32,7 @@ use Rattle.claims.proofs.Fitting.{not-silent}
 use Rattle.claims.proofs.Uses.{long-places, sized-long, long-search, long-heard}
 use Rattle.claims.proofs.Calls.{wrong-length, wrong-level, wrong-thresholds, wrong-index, nothing, something, ends, numbered}
 use Rattle.claims.proofs.Timing.{timed}
+use Rattle.claims.proofs.Only.{one-answer}
 
 module _ (samples : List Float) (s : Settings) (index : ℕ) where
   -- an accepted call answers what the search finds
@@ -153,4 +154,9 @@ module _ (samples : List Float) (s : Settings) (index : ℕ) where
 
 -- THE CLAIMS: where the contract `answer ≡ decodeOf samples s index` holds, all of them do
 pub audited : Audited decodeOf
-audited = record { answered = answered; higher = λ samples s index m z h k. higher samples s index m z (omega arith) k }
+audited =
+    record {
+      answered = answered;
+      higher = λ samples s index m z h k. higher samples s index m z (omega arith) k;
+      only = λ samples s index b h. one-answer samples s index b (decodeOf samples s index) h (answered samples s index);
+    }

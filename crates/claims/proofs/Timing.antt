@@ -1,6 +1,6 @@
 -- The time of an answer: the index gains what the fraction loses, at most two samples, and a fraction that is a number ends in [-0.5, 0.5).
 -- Assumes nothing.
-use mathlib.Core.Path.{_≡_, refl, sym, ap, _∙_}
+use mathlib.Core.Path.{_≡_, refl, sym, ap, _∙_, subst}
 use mathlib.Core.List.{List}
 use Prim.Native.Nat.{ℕ, suc, _+_, _-_, _*_, _≤_}
 use native.Mathlib.Omega.{arith}
@@ -14,13 +14,16 @@ use Rattle.place.specs.declared.Place.{Place}
 use Rattle.place.specs.Step.{sampleStart}
 use Rattle.timing.specs.declared.Offset.{Offset}
 use Rattle.timing.specs.Subsample.{fractionOf, rest, moved, movesOf, timingOf}
+use Rattle.timing.specs.Exact.{LessBy}
+use Rattle.timing.proofs.Reach.{fraction-reaches}
 use Rattle.timing.proofs.Laws.{reaches, ends-in-range, nan-stays, at-most-two}
 use Rattle.timing.proofs.Moving.{moves-exact}
 use Rattle.search.specs.declared.Candidate.{Candidate}
 use Rattle.search.specs.Seen.{windowOf}
 use Rattle.search.specs.Timed.{promptOf, about, fractionAt, timingAt, indexOf}
 use Rattle.search.specs.Answers.{answerOf}
-use Rattle.claims.specs.Timing.{WellTimed}
+use Rattle.claims.specs.Timing.{movesFor, WellTimed}
+use Rattle.claims.proofs.Moves.{moves-are}
 
 fraction-fits : (parabola : Float) (offset : Offset) → T (fits binary32 (fractionOf parabola offset))
 unfolding fractionOf
@@ -45,11 +48,13 @@ timed samples index c h =
     let t = fraction-fits (about w (c .message) p) (p .offset) in
     let r = reaches (about w (c .message) p) (p .offset) in
     let two = at-most-two f in
+    let m : moved f ≡ movesFor f = moves-are f (fraction-reaches (about w (c .message) p) (p .offset)) in
     record {
-      moves = moved f;
-      few = omega arith;
-      gained = moved-index index start (moved f) (omega arith) ∙ ap (λ (i : ℕ). pos i +ℤ moved f) (by-hand index (c .place));
-      lost = moves-exact f t r;
+      gained =
+          moved-index index start (moved f) (omega arith)
+          ∙ ap (λ (i : ℕ). pos i +ℤ moved f) (by-hand index (c .place))
+          ∙ ap (λ (k : ℤ). pos (index - 128 + 4 * (2 * c .place .bit + c .place .symbol) + c .place .phase) +ℤ k) m;
+      lost = λ e. subst (λ (k : ℤ). LessBy k f (rest f)) m (moves-exact f t r e);
       within = ends-in-range f t r;
-      nan-stays = λ e. let n = nan-is f e in (ap isNan (ap rest n ∙ nan-stays .0 ∙ sym n) ∙ e, ap moved n ∙ nan-stays .1);
+      nan-stays = λ e. let n = nan-is f e in ap isNan (ap rest n ∙ nan-stays .0 ∙ sym n) ∙ e;
     }

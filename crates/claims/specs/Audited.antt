@@ -58,6 +58,16 @@ pub record Answered (samples : List Float) (s : Settings) (index : ℕ) (a : Ans
   pub not-silent : Accepted samples s index → (p : Place) → p ∈ long .places → (z : Slicer) (ρ : Repairs)
       → Fits long s (windowOf 14 samples) p z ρ → count ρ ≤ 1 → (a .number ≡ 0) × (count (a .repairs) ≤ count ρ)
 
+-- Two answers are the same, up to the fraction, which `WellTimed` gives as a number.
+pub record Same (a b : Answer) : Type 0 where
+  pub number : a .number ≡ b .number
+  pub place : a .place ≡ b .place
+  pub slicer : a .slicer ≡ b .slicer
+  pub repairs : a .repairs ≡ b .repairs
+  pub message : a .message ≡ b .message
+  pub cn0 : a .cn0 ≡ b .cn0
+  pub index : a .index ≡ b .index
+
 -- the settings with another level
 abbrev pub atLevel : ℕ → Settings → Settings
 atLevel m s = record { level = m; threshold = s .threshold; second = s .second; distance = s .distance }
@@ -68,3 +78,5 @@ pub record Audited (decode : List Float → Settings → ℕ → Answer) : Type 
   -- 6. What is returned at one level is returned, all fields included, at every higher level.
   pub higher : (samples : List Float) (s : Settings) (index m : ℕ) → decode samples s index .number ≡ 0 → s .level ≤ m → m ≤ 2
       → decode samples (atLevel m s) index ≡ decode samples s index
+  -- 7. These claims leave nothing open: whatever else satisfies them is the same answer.
+  pub only : (samples : List Float) (s : Settings) (index : ℕ) (b : Answer) → Answered samples s index b → Same b (decode samples s index)

@@ -1,11 +1,12 @@
 -- WHAT IS CLAIMED OF A DECODE: `a` is its answer for the samples of a window, the settings `s` and the index of the window's sample 128.
 -- Assumes nothing.
 use mathlib.Core.Path.{_≡_}
+use mathlib.Core.Bool.{true}
 use mathlib.Core.List.{List}
-use mathlib.Core.Logic.{_↔_, _≢_}
+use mathlib.Core.Logic.{_⊎_, _↔_, _≢_}
 use Prim.Native.Nat.{ℕ, _≤_, _<_}
 use lib.ListN.{replicate}
-use lib.Ieee.{Float, binary32, ofBits}
+use lib.Ieee.{Float, binary32, ofBits, eq, isNan}
 use Rattle.lists.specs.Bits.{bitAt}
 use Rattle.annex10.specs.Repair.{count, Named, repaired}
 use Rattle.annex10.specs.declared.Repairs.{Repairs}
@@ -58,7 +59,7 @@ pub record Answered (samples : List Float) (s : Settings) (index : ℕ) (a : Ans
   pub not-silent : Accepted samples s index → (p : Place) → p ∈ long .places → (z : Slicer) (ρ : Repairs)
       → Fits long s (windowOf 14 samples) p z ρ → count ρ ≤ 1 → (a .number ≡ 0) × (count (a .repairs) ≤ count ρ)
 
--- Two answers are the same, up to the fraction, which `WellTimed` gives as a number.
+-- Two answers are the same: the fraction as a number, or as no number.
 pub record Same (a b : Answer) : Type 0 where
   pub number : a .number ≡ b .number
   pub place : a .place ≡ b .place
@@ -67,6 +68,7 @@ pub record Same (a b : Answer) : Type 0 where
   pub message : a .message ≡ b .message
   pub cn0 : a .cn0 ≡ b .cn0
   pub index : a .index ≡ b .index
+  pub fraction : (eq (a .fraction) (b .fraction) ≡ true) ⊎ ((isNan (a .fraction) ≡ true) × (isNan (b .fraction) ≡ true))
 
 -- the settings with another level
 abbrev pub atLevel : ℕ → Settings → Settings

@@ -6,4 +6,5 @@ pub mod Reach
 mod Reading
 pub mod Laws
 pub mod Moving
+pub mod Valued
 pub mod Cases

@@ -73,7 +73,7 @@ module _ (a d n c : ℕ) (C : 0 < c) (D : 0 < d) (e : a * c ≡ n * d) where
 
 -- a sum times z is the sum of the products, as k counts up and down from 0
 module _ (m z : ℤ) where
-  abbrev Sums : ℤ → Type 0
+  abbrev pub Sums : ℤ → Type 0
   Sums k = (m +ℤ k) *ℤ z ≡ m *ℤ z +ℤ k *ℤ z
 
   sums-zero : Sums (pos 0)
@@ -103,7 +103,7 @@ module _ (m z : ℤ) where
   sums-neg zero = sums-less (pos 0) sums-zero
   sums-neg (suc n) = sums-less (negsuc n) (sums-neg n)
 
-  times-sum : (k : ℤ) → Sums k
+  pub times-sum : (k : ℤ) → Sums k
   times-sum (pos n) = sums-pos n
   times-sum (negsuc n) = sums-neg n
 

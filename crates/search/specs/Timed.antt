@@ -33,9 +33,13 @@ about w message p =
     let s = sampleStart (p .place) in
     parabola (w .prompt (startingAt (s - 1)) message) (p .power) (w .prompt (startingAt (s + 1)) message)
 
--- the moves and the fraction of a message that starts with sample s
+-- the fraction of a message that starts with sample s, before any sample moves
+abbrev pub fractionAt : Window → List ℕ → ℕ → Float
+fractionAt w message s = let p = promptOf w message s in fractionOf (about w message p) (p .offset)
+
+-- its moves, and the fraction that they leave
 unfoldable pub timingAt : Window → List ℕ → ℕ → Timing
-timingAt w message s = let p = promptOf w message s in timingOf (fractionOf (about w message p) (p .offset))
+timingAt w message s = timingOf (fractionAt w message s)
 
 abbrev pub moved : Moves → ℕ → ℕ
 moved (On n) index = index + n

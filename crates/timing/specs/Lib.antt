@@ -1,1 +1,2 @@
 pub mod Subsample
+pub mod Exact

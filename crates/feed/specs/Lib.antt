@@ -1,0 +1,4 @@
+pub mod Parts
+pub mod Listing
+pub mod Machine
+pub mod Run

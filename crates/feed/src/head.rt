@@ -1,0 +1,171 @@
+// What is done with the numbers before the samples, each checked as it is met.
+use crate::Fed;
+use crate::Stage;
+use crate::State;
+use crate::moves::counted;
+use crate::moves::refuses;
+use crate::moves::silent;
+use crate::moves::told;
+use listing::lines::head_line;
+use math::is_finite;
+use receiver::settings::check_index;
+use search::Settings;
+use words::float::float_of;
+ghost use mathlib.Core.Path.{_≡_};
+ghost use Prim.Native.Nat.{_<_};
+ghost use Rattle.feed.specs.Machine.{numberFed, indexFed, kept as keptOf};
+
+fn fed_count(s: State, t: Settings, n: u32) -> Fed
+    ensures { λ r. ⌜ r ≡ numberFed Stage.Count s t n ⌝ }
+{
+    if n != 4 {
+        return refuses(10);
+    }
+    silent(told(Stage::Level, t, s))
+}
+
+fn fed_level(s: State, t: Settings, n: u32) -> Fed
+    ensures { λ r. ⌜ r ≡ numberFed Stage.Level s t n ⌝ }
+{
+    if n > 2 {
+        return refuses(4);
+    }
+    let settings = Settings {
+        level: n,
+        threshold: t.threshold,
+        second: t.second,
+        distance: t.distance,
+    };
+    silent(told(Stage::Threshold, settings, s))
+}
+
+fn fed_threshold(s: State, t: Settings, n: u32) -> Fed
+    ensures { λ r. ⌜ r ≡ numberFed Stage.Threshold s t n ⌝ }
+{
+    let x = float_of(n);
+    if !is_finite(x) {
+        return refuses(5);
+    }
+    let settings = Settings {
+        level: t.level,
+        threshold: x,
+        second: t.second,
+        distance: t.distance,
+    };
+    silent(told(Stage::Second, settings, s))
+}
+
+fn fed_second(s: State, t: Settings, n: u32) -> Fed
+    ensures { λ r. ⌜ r ≡ numberFed Stage.Second s t n ⌝ }
+{
+    let x = float_of(n);
+    if !is_finite(x) {
+        return refuses(5);
+    }
+    let settings = Settings {
+        level: t.level,
+        threshold: t.threshold,
+        second: x,
+        distance: t.distance,
+    };
+    silent(told(Stage::Distance, settings, s))
+}
+
+fn fed_distance(s: State, t: Settings, n: u32) -> Fed
+    ensures { λ r. ⌜ r ≡ numberFed Stage.Distance s t n ⌝ }
+{
+    let settings = Settings {
+        level: t.level,
+        threshold: t.threshold,
+        second: t.second,
+        distance: n,
+    };
+    silent(told(Stage::Windows, settings, s))
+}
+
+fn fed_windows(s: State, t: Settings, n: u32) -> Fed
+    ensures { λ r. ⌜ r ≡ numberFed Stage.Windows s t n ⌝ }
+{
+    if n > 64 {
+        return refuses(10);
+    }
+    if n == 0 {
+        return silent(counted(Stage::Numbers, n, 0, s));
+    }
+    silent(counted(Stage::Index, n, 0, s))
+}
+
+fn fed_numbers(s: State, t: Settings, n: u32) -> Fed
+    ensures { λ r. ⌜ r ≡ numberFed Stage.Numbers s t n ⌝ }
+{
+    let windows = s.windows;
+    if n as u64 != 2310 * (windows as u64) {
+        return refuses(10);
+    }
+    let text = head_line(windows as u64);
+    if windows == 0 {
+        return Fed {
+            state: counted(Stage::End, windows, 0, s),
+            text,
+        };
+    }
+    Fed {
+        state: counted(Stage::Samples, windows, 0, s),
+        text,
+    }
+}
+
+// A number of 32 bits, at the stage that wants it.
+pub fn fed_number(s: State, n: u32) -> Fed
+    ensures { λ r. ⌜ r ≡ numberFed (s .stage) s (s .settings) n ⌝ }
+{
+    let stage = s.stage;
+    let t = s.settings;
+    match stage {
+        Stage::Count => fed_count(s, t, n),
+        Stage::Level => fed_level(s, t, n),
+        Stage::Threshold => fed_threshold(s, t, n),
+        Stage::Second => fed_second(s, t, n),
+        Stage::Distance => fed_distance(s, t, n),
+        Stage::Windows => fed_windows(s, t, n),
+        Stage::Numbers => fed_numbers(s, t, n),
+        Stage::Index => silent(s),
+        Stage::Samples => silent(s),
+        Stage::End => silent(s),
+        Stage::Over => silent(s),
+    }
+}
+
+fn kept(stage: Stage, index: u64, s: State) -> State
+    requires { ⌜ s .done < 64 ⌝ }
+    ensures { λ r. ⌜ r ≡ keptOf stage index s ⌝ }
+{
+    let done = s.done;
+    let settings = s.settings;
+    let mut indices = s.indices;
+    indices[done as usize] = index;
+    State {
+        stage,
+        settings,
+        windows: s.windows,
+        done: done + 1,
+        indices,
+    }
+}
+
+// The index of a window.
+pub fn fed_index(s: State, index: u64) -> Fed
+    ensures { λ r. ⌜ r ≡ indexFed s index ⌝ }
+{
+    let done = s.done;
+    if done >= 64 {
+        return refuses(10);
+    }
+    if check_index(index) != 0 {
+        return refuses(6);
+    }
+    if done + 1 < s.windows {
+        return silent(kept(Stage::Index, index, s));
+    }
+    silent(kept(Stage::Numbers, index, s))
+}

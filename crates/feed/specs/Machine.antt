@@ -1,7 +1,7 @@
 -- What is known of an input so far, which part is wanted next and what becomes of it.
 -- Assumes nothing.
 use mathlib.Core.Bool.{Bool, cond}
-use mathlib.Core.List.{List, [], _∷_}
+use mathlib.Core.List.{List, []}
 use Prim.Native.Nat.{ℕ, _+_, _-_, _*_}
 use lib.Dec.{eqb, leb, ltb}
 use lib.Ieee.{Float, binary32, ofBits}
@@ -12,33 +12,25 @@ use Rattle.search.specs.declared.Settings.{Settings}
 use Rattle.search.specs.Answers.{indexNumber, decodeOf}
 use Rattle.words.specs.Words.{littleEndian, floatAt}
 use Rattle.listing.specs.Lines.{headLine, refusedLine, windowLine, textOf}
-use Rattle.feed.specs.declared.Stage.{Stage}
-use Rattle.feed.specs.declared.Stage.the-variants.{
-  Count,
+use Rattle.feed.specs.declared.Field.{Field}
+use Rattle.feed.specs.declared.Field.the-variants.{
+  SettingsCount,
   Level,
   Threshold,
   Second,
   Distance,
-  Windows,
-  Index,
-  Numbers,
-  Samples,
-  End,
-  Over,
+  WindowCount,
+  SampleCount,
 }
+use Rattle.feed.specs.declared.Stage.{Stage}
+use Rattle.feed.specs.declared.Stage.the-variants.{Number, Index, Samples, End, Over}
 use Rattle.feed.specs.declared.State.{State}
 use Rattle.feed.specs.declared.Fed.{Fed}
 
 -- how many bytes are wanted next; at the end one, to see that it does not come
 abbrev pub wantedAt : Stage → ℕ
-wantedAt Count = 4
-wantedAt Level = 4
-wantedAt Threshold = 4
-wantedAt Second = 4
-wantedAt Distance = 4
-wantedAt Windows = 4
+wantedAt (Number f) = 4
 wantedAt Index = 8
-wantedAt Numbers = 4
 wantedAt Samples = 9240
 wantedAt End = 1
 wantedAt Over = 0
@@ -47,7 +39,7 @@ unfoldable pub wantedOf : State → ℕ
 wantedOf s = wantedAt (s .stage)
 
 -- nothing is known yet: zeros
-unfoldable pub blank : Stage → State
+abbrev pub blank : Stage → State
 blank stage =
     record {
       stage = stage;
@@ -58,7 +50,7 @@ blank stage =
     }
 
 unfoldable pub startOf : State
-startOf = blank Count
+startOf = blank (Number SettingsCount)
 
 -- ---- what becomes of a state, and what is printed
 
@@ -73,45 +65,46 @@ unfoldable pub provided : Bool → ℕ → Fed → Fed
 provided test refusal fed = cond test fed (refuses refusal)
 
 -- the same at another stage, with other settings
-unfoldable pub told : Stage → Settings → State → State
+abbrev pub told : Stage → Settings → State → State
 told stage settings s =
     record { stage = stage; settings = settings; windows = s .windows; done = s .done; indices = s .indices }
 
 -- the same at another stage, with other counts
-unfoldable pub counted : Stage → ℕ → ℕ → State → State
+abbrev pub counted : Stage → ℕ → ℕ → State → State
 counted stage windows done s =
     record { stage = stage; settings = s .settings; windows = windows; done = done; indices = s .indices }
 
--- ---- what is done with a number of 32 bits
+-- ---- what is done with a number of 32 bits; t: the settings so far
 
-abbrev pub numberFed : Stage → State → Settings → ℕ → Fed
-numberFed Count s t n = provided (eqb n 4) 10 (says [] (told Level t s))
+abbrev pub numberFed : Field → State → Settings → ℕ → Fed
+numberFed SettingsCount s t n = provided (eqb n 4) 10 (says [] (told (Number Level) t s))
 numberFed Level s t n =
     provided (leb n 2) 4
-    (says [] (told Threshold (record { level = n; threshold = t .threshold; second = t .second; distance = t .distance }) s))
+    (says []
+    (told (Number Threshold) (record { level = n; threshold = t .threshold; second = t .second; distance = t .distance }) s))
 numberFed Threshold s t n =
-    provided (finite (ofBits binary32 n)) 5
+    let x = ofBits binary32 n in
+    provided (finite x) 5
     (says []
-    (told Second (record { level = t .level; threshold = ofBits binary32 n; second = t .second; distance = t .distance }) s))
+    (told (Number Second) (record { level = t .level; threshold = x; second = t .second; distance = t .distance }) s))
 numberFed Second s t n =
-    provided (finite (ofBits binary32 n)) 5
+    let x = ofBits binary32 n in
+    provided (finite x) 5
     (says []
-    (told Distance (record { level = t .level; threshold = t .threshold; second = ofBits binary32 n; distance = t .distance }) s))
+    (told (Number Distance) (record { level = t .level; threshold = t .threshold; second = x; distance = t .distance }) s))
 numberFed Distance s t n =
-    says [] (told Windows (record { level = t .level; threshold = t .threshold; second = t .second; distance = n }) s)
-numberFed Windows s t n = provided (leb n 64) 10 (says [] (counted (cond (eqb n 0) Numbers Index) n 0 s))
-numberFed Numbers s t n =
+    says []
+    (told (Number WindowCount) (record { level = t .level; threshold = t .threshold; second = t .second; distance = n }) s)
+numberFed WindowCount s t n =
+    provided (leb n 64) 10 (says [] (counted (cond (eqb n 0) (Number SampleCount) Index) n 0 s))
+numberFed SampleCount s t n =
     provided (eqb n (2310 * s .windows)) 10
     (says (headLine (s .windows)) (counted (cond (eqb (s .windows) 0) End Samples) (s .windows) 0 s))
-numberFed Index s t n = says [] s
-numberFed Samples s t n = says [] s
-numberFed End s t n = says [] s
-numberFed Over s t n = says [] s
 
--- ---- an index, a window, the end
+-- ---- an index, a window
 
 -- an index is kept where there is room for it
-unfoldable pub kept : Stage → ℕ → State → State
+abbrev pub kept : Stage → ℕ → State → State
 kept stage index s =
     record {
       stage = stage;
@@ -125,7 +118,7 @@ unfoldable pub indexFed : State → ℕ → Fed
 indexFed s index =
     provided (ltb (s .done) 64) 10
     (provided (eqb (indexNumber index) 0) 6
-    (says [] (kept (cond (ltb (s .done + 1) (s .windows)) Index Numbers) index s)))
+    (says [] (kept (cond (ltb (s .done + 1) (s .windows)) Index (Number SampleCount)) index s)))
 
 -- what is said of a window whose samples came
 unfoldable pub samplesLine : State → List ℕ → List ℕ
@@ -138,10 +131,6 @@ samplesFed s part =
     (says (samplesLine s part)
     (counted (cond (ltb (s .done + 1) (s .windows)) Samples End) (s .windows) (s .done + 1) s))
 
-unfoldable pub endFed : List ℕ → Fed
-endFed [] = says [] (blank Over)
-endFed (b ∷ bs) = refuses 10
-
 -- ---- the whole
 
 -- a part that has another length than is wanted is malformed
@@ -149,16 +138,10 @@ unfoldable pub sized : ℕ → List ℕ → Fed → Fed
 sized n part fed = provided (eqb (length part) n) 10 fed
 
 abbrev pub fedAt : Stage → State → List ℕ → Fed
-fedAt Count s part = sized 4 part (numberFed Count s (s .settings) (littleEndian part))
-fedAt Level s part = sized 4 part (numberFed Level s (s .settings) (littleEndian part))
-fedAt Threshold s part = sized 4 part (numberFed Threshold s (s .settings) (littleEndian part))
-fedAt Second s part = sized 4 part (numberFed Second s (s .settings) (littleEndian part))
-fedAt Distance s part = sized 4 part (numberFed Distance s (s .settings) (littleEndian part))
-fedAt Windows s part = sized 4 part (numberFed Windows s (s .settings) (littleEndian part))
+fedAt (Number f) s part = sized 4 part (numberFed f s (s .settings) (littleEndian part))
 fedAt Index s part = sized 8 part (indexFed s (littleEndian part))
-fedAt Numbers s part = sized 4 part (numberFed Numbers s (s .settings) (littleEndian part))
 fedAt Samples s part = sized 9240 part (samplesFed s part)
-fedAt End s part = endFed part
+fedAt End s part = sized 0 part (says [] (blank Over))
 fedAt Over s part = says [] s
 
 -- the part that was wanted; a shorter one says that the input ended there

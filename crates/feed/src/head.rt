@@ -1,5 +1,6 @@
 // What is done with the numbers before the samples, each checked as it is met.
 use crate::Fed;
+use crate::Field;
 use crate::Stage;
 use crate::State;
 use crate::moves::counted;
@@ -15,17 +16,17 @@ ghost use mathlib.Core.Path.{_≡_};
 ghost use Prim.Native.Nat.{_<_};
 ghost use Rattle.feed.specs.Machine.{numberFed, indexFed, kept as keptOf};
 
-fn fed_count(s: State, t: Settings, n: u32) -> Fed
-    ensures { λ r. ⌜ r ≡ numberFed Stage.Count s t n ⌝ }
+fn fed_settings_count(s: State, t: Settings, n: u32) -> Fed
+    ensures { λ r. ⌜ r ≡ numberFed Field.SettingsCount s t n ⌝ }
 {
     if n != 4 {
         return refuses(10);
     }
-    silent(told(Stage::Level, t, s))
+    silent(told(Stage::Number(Field::Level), t, s))
 }
 
 fn fed_level(s: State, t: Settings, n: u32) -> Fed
-    ensures { λ r. ⌜ r ≡ numberFed Stage.Level s t n ⌝ }
+    ensures { λ r. ⌜ r ≡ numberFed Field.Level s t n ⌝ }
 {
     if n > 2 {
         return refuses(4);
@@ -36,11 +37,11 @@ fn fed_level(s: State, t: Settings, n: u32) -> Fed
         second: t.second,
         distance: t.distance,
     };
-    silent(told(Stage::Threshold, settings, s))
+    silent(told(Stage::Number(Field::Threshold), settings, s))
 }
 
 fn fed_threshold(s: State, t: Settings, n: u32) -> Fed
-    ensures { λ r. ⌜ r ≡ numberFed Stage.Threshold s t n ⌝ }
+    ensures { λ r. ⌜ r ≡ numberFed Field.Threshold s t n ⌝ }
 {
     let x = float_of(n);
     if !is_finite(x) {
@@ -52,11 +53,11 @@ fn fed_threshold(s: State, t: Settings, n: u32) -> Fed
         second: t.second,
         distance: t.distance,
     };
-    silent(told(Stage::Second, settings, s))
+    silent(told(Stage::Number(Field::Second), settings, s))
 }
 
 fn fed_second(s: State, t: Settings, n: u32) -> Fed
-    ensures { λ r. ⌜ r ≡ numberFed Stage.Second s t n ⌝ }
+    ensures { λ r. ⌜ r ≡ numberFed Field.Second s t n ⌝ }
 {
     let x = float_of(n);
     if !is_finite(x) {
@@ -68,11 +69,11 @@ fn fed_second(s: State, t: Settings, n: u32) -> Fed
         second: x,
         distance: t.distance,
     };
-    silent(told(Stage::Distance, settings, s))
+    silent(told(Stage::Number(Field::Distance), settings, s))
 }
 
 fn fed_distance(s: State, t: Settings, n: u32) -> Fed
-    ensures { λ r. ⌜ r ≡ numberFed Stage.Distance s t n ⌝ }
+    ensures { λ r. ⌜ r ≡ numberFed Field.Distance s t n ⌝ }
 {
     let settings = Settings {
         level: t.level,
@@ -80,23 +81,23 @@ fn fed_distance(s: State, t: Settings, n: u32) -> Fed
         second: t.second,
         distance: n,
     };
-    silent(told(Stage::Windows, settings, s))
+    silent(told(Stage::Number(Field::WindowCount), settings, s))
 }
 
-fn fed_windows(s: State, t: Settings, n: u32) -> Fed
-    ensures { λ r. ⌜ r ≡ numberFed Stage.Windows s t n ⌝ }
+fn fed_window_count(s: State, t: Settings, n: u32) -> Fed
+    ensures { λ r. ⌜ r ≡ numberFed Field.WindowCount s t n ⌝ }
 {
     if n > 64 {
         return refuses(10);
     }
     if n == 0 {
-        return silent(counted(Stage::Numbers, n, 0, s));
+        return silent(counted(Stage::Number(Field::SampleCount), n, 0, s));
     }
     silent(counted(Stage::Index, n, 0, s))
 }
 
-fn fed_numbers(s: State, t: Settings, n: u32) -> Fed
-    ensures { λ r. ⌜ r ≡ numberFed Stage.Numbers s t n ⌝ }
+fn fed_sample_count(s: State, t: Settings, n: u32) -> Fed
+    ensures { λ r. ⌜ r ≡ numberFed Field.SampleCount s t n ⌝ }
 {
     let windows = s.windows;
     if n as u64 != 2310 * (windows as u64) {
@@ -115,24 +116,18 @@ fn fed_numbers(s: State, t: Settings, n: u32) -> Fed
     }
 }
 
-// A number of 32 bits, at the stage that wants it.
-pub fn fed_number(s: State, n: u32) -> Fed
-    ensures { λ r. ⌜ r ≡ numberFed (s .stage) s (s .settings) n ⌝ }
+pub fn fed_number(f: Field, s: State, n: u32) -> Fed
+    ensures { λ r. ⌜ r ≡ numberFed f s (s .settings) n ⌝ }
 {
-    let stage = s.stage;
     let t = s.settings;
-    match stage {
-        Stage::Count => fed_count(s, t, n),
-        Stage::Level => fed_level(s, t, n),
-        Stage::Threshold => fed_threshold(s, t, n),
-        Stage::Second => fed_second(s, t, n),
-        Stage::Distance => fed_distance(s, t, n),
-        Stage::Windows => fed_windows(s, t, n),
-        Stage::Numbers => fed_numbers(s, t, n),
-        Stage::Index => silent(s),
-        Stage::Samples => silent(s),
-        Stage::End => silent(s),
-        Stage::Over => silent(s),
+    match f {
+        Field::SettingsCount => fed_settings_count(s, t, n),
+        Field::Level => fed_level(s, t, n),
+        Field::Threshold => fed_threshold(s, t, n),
+        Field::Second => fed_second(s, t, n),
+        Field::Distance => fed_distance(s, t, n),
+        Field::WindowCount => fed_window_count(s, t, n),
+        Field::SampleCount => fed_sample_count(s, t, n),
     }
 }
 
@@ -167,5 +162,5 @@ pub fn fed_index(s: State, index: u64) -> Fed
     if done + 1 < s.windows {
         return silent(kept(Stage::Index, index, s));
     }
-    silent(kept(Stage::Numbers, index, s))
+    silent(kept(Stage::Number(Field::SampleCount), index, s))
 }

@@ -8,16 +8,21 @@ mod samples;
 use listing::Text;
 use search::Settings;
 
-// What the next part holds. Over: no part is wanted any more.
-pub enum Stage {
-    Count,
+// The numbers of 32 bits before the samples, in their order.
+pub enum Field {
+    SettingsCount,
     Level,
     Threshold,
     Second,
     Distance,
-    Windows,
+    WindowCount,
+    SampleCount,
+}
+
+// What the next part holds. The indices come between the window count and the sample count. Over: no part is wanted any more.
+pub enum Stage {
+    Number(Field),
     Index,
-    Numbers,
     Samples,
     End,
     Over,

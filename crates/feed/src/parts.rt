@@ -1,5 +1,6 @@
 // An input in parts: what is wanted, what is done with it, what is printed.
 use crate::Fed;
+use crate::Field;
 use crate::Stage;
 use crate::State;
 use crate::head::fed_index;
@@ -11,15 +12,16 @@ use crate::samples::fed_samples;
 use words::numbers::joined;
 use words::numbers::long;
 ghost use mathlib.Core.Path.{_≡_};
+ghost use mathlib.Core.List.{[]};
 ghost use lib.ListN.{length};
 ghost use Rattle.words.specs.Words.{littleEndian};
-ghost use Rattle.feed.specs.Machine.{startOf, wantedOf, fedOf, failedOf, numberFed, indexFed, samplesFed, endFed, sized};
+ghost use Rattle.feed.specs.Machine.{startOf, wantedOf, fedOf, failedOf, numberFed, indexFed, samplesFed, sized, says, blank as blankOf};
 
 // Before the first part.
 pub fn start() -> State
     ensures { λ r. ⌜ r ≡ startOf ⌝ }
 {
-    blank(Stage::Count)
+    blank(Stage::Number(Field::SettingsCount))
 }
 
 // How many bytes the next part has; 0: all is over.
@@ -28,11 +30,11 @@ pub fn wanted(state: State) -> usize
 {
     let stage = state.stage;
     match stage {
+        Stage::Number(_) => 4,
         Stage::Index => 8,
         Stage::Samples => 9240,
         Stage::End => 1,
         Stage::Over => 0,
-        _ => 4,
     }
 }
 
@@ -59,13 +61,13 @@ fn long_of(part: &[u8]) -> u64
     ])
 }
 
-fn with_number(state: State, part: &[u8]) -> Fed
-    ensures { λ r. ⌜ r ≡ sized 4 (now (part .entry)) (numberFed (state .stage) state (state .settings) (littleEndian (now (part .entry)))) ⌝ }
+fn with_number(f: Field, state: State, part: &[u8]) -> Fed
+    ensures { λ r. ⌜ r ≡ sized 4 (now (part .entry)) (numberFed f state (state .settings) (littleEndian (now (part .entry)))) ⌝ }
 {
     if part.len() != 4 {
         return refuses(10);
     }
-    fed_number(state, word_of(part))
+    fed_number(f, state, word_of(part))
 }
 
 fn with_index(state: State, part: &[u8]) -> Fed
@@ -87,7 +89,7 @@ fn with_samples(state: State, part: &[u8]) -> Fed
 }
 
 fn with_end(part: &[u8]) -> Fed
-    ensures { λ r. ⌜ r ≡ endFed (now (part .entry)) ⌝ }
+    ensures { λ r. ⌜ r ≡ sized 0 (now (part .entry)) (says [] (blankOf Stage.Over)) ⌝ }
 {
     if part.len() != 0 {
         return refuses(10);
@@ -101,14 +103,8 @@ pub fn feed(state: State, part: &[u8]) -> Fed
 {
     let stage = state.stage;
     match stage {
-        Stage::Count => with_number(state, part),
-        Stage::Level => with_number(state, part),
-        Stage::Threshold => with_number(state, part),
-        Stage::Second => with_number(state, part),
-        Stage::Distance => with_number(state, part),
-        Stage::Windows => with_number(state, part),
+        Stage::Number(f) => with_number(f, state, part),
         Stage::Index => with_index(state, part),
-        Stage::Numbers => with_number(state, part),
         Stage::Samples => with_samples(state, part),
         Stage::End => with_end(part),
         Stage::Over => silent(state),

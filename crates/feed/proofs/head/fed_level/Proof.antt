@@ -1,31 +1,29 @@
+-- `feed::head::fed_level` meets its contract.
+-- Assumes nothing.
+use mathlib.Core.Path.{ap, _∙_}
+use mathlib.Core.List.{[]}
+use borrow.Author.Tests.{le-leb, lt-leb}
+use Rattle.feed.specs.Machine.{says, provided}
 use borrow.Author.Needs.{needs}
 use Rattle.feed.proofs.head.fed_level.Statement.{statement}
 use Rattle.feed.proofs.head.fed_level.Tie as tie
-use Rattle.feed.proofs.head.fed_level.Reads as reads
-use Rattle.feed.proofs.head.fed_level.Lts as lts
-use Rattle.feed.proofs.moves.refuses.Reads as refuses-reads
-use Rattle.feed.proofs.moves.silent.Reads as silent-reads
-use Rattle.feed.proofs.moves.told.Reads as told-reads
 
--- src/head.rt:31:9
 refuses-requires : tie.Need-refuses-requires
 refuses-requires c κs = search needs
 
--- src/head.rt:31:9
 returns : tie.Need-returns
-returns c = ?
+unfolding provided
+returns c = simp (lt-leb _ _ (c .before .if1 .taken)) (c .refuses .ensures)
 
--- src/head.rt:39:12
 told-requires : tie.Need-told-requires
 told-requires c κs = search needs
 
--- src/head.rt:39:5
 silent-requires : tie.Need-silent-requires
 silent-requires c κs = search needs
 
--- src/head.rt:27:1
 returns-2 : tie.Need-returns-2
-returns-2 c = ?
+unfolding provided
+returns-2 c = simp (le-leb _ _ (c .before .before .if1 .left)) (c .silent .ensures ∙ ap (says []) (c .before .told .ensures))
 
 pub fed-level-spec : {M : Type 1} → statement M
 fed-level-spec =

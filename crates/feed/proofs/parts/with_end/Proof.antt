@@ -1,31 +1,29 @@
+-- `feed::parts::with_end` meets its contract.
+-- Assumes nothing.
+use mathlib.Core.Path.{ap, _∙_}
+use mathlib.Core.List.{[]}
+use borrow.Author.Tests.{eq-eqb, ne-eqb}
+use Rattle.feed.specs.Machine.{says, provided, sized}
 use borrow.Author.Needs.{needs}
 use Rattle.feed.proofs.parts.with_end.Statement.{statement}
 use Rattle.feed.proofs.parts.with_end.Tie as tie
-use Rattle.feed.proofs.parts.with_end.Reads as reads
-use Rattle.feed.proofs.parts.with_end.Lts as lts
-use Rattle.feed.proofs.moves.blank.Reads as blank-reads
-use Rattle.feed.proofs.moves.refuses.Reads as refuses-reads
-use Rattle.feed.proofs.moves.silent.Reads as silent-reads
 
--- src/parts.rt:93:9
 refuses-requires : tie.Need-refuses-requires
 refuses-requires c κs = search needs
 
--- src/parts.rt:93:9
 returns : tie.Need-returns
-returns c = ?
+unfolding provided sized
+returns c = simp (ne-eqb _ _ (c .before .if1 .taken)) (c .refuses .ensures)
 
--- src/parts.rt:95:12
 blank-requires : tie.Need-blank-requires
 blank-requires c κs = search needs
 
--- src/parts.rt:95:5
 silent-requires : tie.Need-silent-requires
 silent-requires c κs = search needs
 
--- src/parts.rt:89:1
 returns-2 : tie.Need-returns-2
-returns-2 c = ?
+unfolding provided sized
+returns-2 c = simp (eq-eqb _ _ (c .before .before .if1 .left)) (c .silent .ensures ∙ ap (says []) (c .before .blank .ensures))
 
 pub with-end-spec : {M : Type 1} → statement M
 with-end-spec =

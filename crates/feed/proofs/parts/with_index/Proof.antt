@@ -1,31 +1,28 @@
+-- `feed::parts::with_index` meets its contract.
+-- Assumes nothing.
+use mathlib.Core.Path.{ap, _∙_}
+use borrow.Author.Tests.{eq-eqb, ne-eqb}
+use Rattle.feed.specs.Machine.{provided, sized, indexFed}
 use borrow.Author.Needs.{needs}
 use Rattle.feed.proofs.parts.with_index.Statement.{statement}
 use Rattle.feed.proofs.parts.with_index.Tie as tie
-use Rattle.feed.proofs.parts.with_index.Reads as reads
-use Rattle.feed.proofs.parts.with_index.Lts as lts
-use Rattle.feed.proofs.head.fed_index.Reads as fed-index-reads
-use Rattle.feed.proofs.moves.refuses.Reads as refuses-reads
-use Rattle.feed.proofs.parts.long_of.Reads as long-of-reads
 
--- src/parts.rt:75:9
 refuses-requires : tie.Need-refuses-requires
 refuses-requires c κs = search needs
 
--- src/parts.rt:75:9
 returns : tie.Need-returns
-returns c = ?
+unfolding provided sized
+returns c = simp (ne-eqb _ _ (c .before .if1 .taken)) (c .refuses .ensures)
 
--- src/parts.rt:77:22
 long-of-requires : tie.Need-long-of-requires
 long-of-requires c κs = search needs
 
--- src/parts.rt:77:5
 fed-index-requires : tie.Need-fed-index-requires
 fed-index-requires c κs = search needs
 
--- src/parts.rt:71:1
 returns-2 : tie.Need-returns-2
-returns-2 c = ?
+unfolding provided sized
+returns-2 c = simp (eq-eqb _ _ (c .before .before .if1 .left)) (c .fed-index .ensures ∙ ap (indexFed (c .before .before .before .before .args .state)) (c .before .long-of .ensures))
 
 pub with-index-spec : {M : Type 1} → statement M
 with-index-spec =

@@ -1,31 +1,32 @@
+-- `feed::parts::with_number` meets its contract.
+-- Assumes nothing.
+use mathlib.Core.Path.{ap, _∙_}
+use Prim.Native.Nat.{ℕ}
+use borrow.Author.Tests.{eq-eqb, ne-eqb}
+use Rattle.feed.specs.Machine.{provided, sized, numberFed}
 use borrow.Author.Needs.{needs}
 use Rattle.feed.proofs.parts.with_number.Statement.{statement}
 use Rattle.feed.proofs.parts.with_number.Tie as tie
-use Rattle.feed.proofs.parts.with_number.Reads as reads
-use Rattle.feed.proofs.parts.with_number.Lts as lts
-use Rattle.feed.proofs.head.fed_number.Reads as fed-number-reads
-use Rattle.feed.proofs.moves.refuses.Reads as refuses-reads
-use Rattle.feed.proofs.parts.word_of.Reads as word-of-reads
 
--- src/parts.rt:66:9
 refuses-requires : tie.Need-refuses-requires
 refuses-requires c κs = search needs
 
--- src/parts.rt:66:9
 returns : tie.Need-returns
-returns c = ?
+unfolding provided sized
+returns c = simp (ne-eqb _ _ (c .before .if1 .taken)) (c .refuses .ensures)
 
--- src/parts.rt:68:23
 word-of-requires : tie.Need-word-of-requires
 word-of-requires c κs = search needs
 
--- src/parts.rt:68:5
 fed-number-requires : tie.Need-fed-number-requires
 fed-number-requires c κs = search needs
 
--- src/parts.rt:62:1
 returns-2 : tie.Need-returns-2
-returns-2 c = ?
+unfolding provided sized
+returns-2 c =
+    let a = c .before .before .before .before .args in
+    simp (eq-eqb _ _ (c .before .before .if1 .left))
+    (c .fed-number .ensures ∙ ap (λ (n : ℕ). numberFed (a .f) (a .state) (a .state .settings) n) (c .before .word-of .ensures))
 
 pub with-number-spec : {M : Type 1} → statement M
 with-number-spec =

@@ -1,51 +1,43 @@
+-- `feed::samples::fed_samples` meets its contract.
+-- Assumes nothing.
+use borrow.Author.Tests.{lt-ltb, le-ltb}
+use Rattle.feed.specs.Machine.{says, provided, samplesFed}
 use borrow.Author.Needs.{needs}
 use Rattle.feed.proofs.samples.fed_samples.Statement.{statement}
 use Rattle.feed.proofs.samples.fed_samples.Tie as tie
-use Rattle.feed.proofs.samples.fed_samples.Reads as reads
-use Rattle.feed.proofs.samples.fed_samples.Lts as lts
-use Rattle.feed.proofs.moves.counted.Reads as counted-reads
-use Rattle.feed.proofs.moves.refuses.Reads as refuses-reads
-use Rattle.feed.proofs.samples.line_of.Reads as line-of-reads
 
--- src/samples.rt:54:9
 refuses-requires : tie.Need-refuses-requires
 refuses-requires c κs = search needs
 
--- src/samples.rt:54:9
 returns : tie.Need-returns
-returns c = ?
+unfolding provided samplesFed
+returns c = simp (le-ltb _ _ (c .before .if1 .taken)) (c .refuses .ensures)
 
--- src/samples.rt:56:9
 line-of-requires : tie.Need-line-of-requires
 line-of-requires c κs = search needs
 
--- src/samples.rt:57:8
 add-if2 : tie.Need-add-if2
 add-if2 c = search needs
 
--- src/samples.rt:59:53
 add-counted : tie.Need-add-counted
 add-counted c = search needs
 
--- src/samples.rt:59:20
 counted-requires : tie.Need-counted-requires
 counted-requires c κs = search needs
 
--- src/samples.rt:58:9
 returns-2 : tie.Need-returns-2
-returns-2 c = ?
+unfolding provided samplesFed says
+returns-2 c = simp (lt-ltb _ _ (c .before .before .before .if1 .left), lt-ltb _ _ (c .before .if2 .taken)) (rw (c .counted .ensures, c .before .before .line-of .ensures))
 
--- src/samples.rt:64:45
 add-counted-2 : tie.Need-add-counted-2
 add-counted-2 c = search needs
 
--- src/samples.rt:64:16
 counted-requires-2 : tie.Need-counted-requires-2
 counted-requires-2 c κs = search needs
 
--- src/samples.rt:47:1
 returns-3 : tie.Need-returns-3
-returns-3 c = ?
+unfolding provided samplesFed says
+returns-3 c = simp (lt-ltb _ _ (c .before .before .before .if1 .left), le-ltb _ _ (c .before .if2 .left)) (rw (c .counted2 .ensures, c .before .before .line-of .ensures))
 
 pub fed-samples-spec : {M : Type 1} → statement M
 fed-samples-spec =

@@ -74,6 +74,13 @@ abbrev pub counted : Stage → ℕ → ℕ → State → State
 counted stage windows done s =
     record { stage = stage; settings = s .settings; windows = windows; done = done; indices = s .indices }
 
+-- where k of the indices came, and where k of the windows came
+unfoldable pub indexStage : ℕ → ℕ → Stage
+indexStage k windows = cond (ltb k windows) Index (Number SampleCount)
+
+unfoldable pub samplesStage : ℕ → ℕ → Stage
+samplesStage k windows = cond (ltb k windows) Samples End
+
 -- ---- what is done with a number of 32 bits; t: the settings so far
 
 abbrev pub numberFed : Field → State → Settings → ℕ → Fed
@@ -96,10 +103,10 @@ numberFed Distance s t n =
     says []
     (told (Number WindowCount) (record { level = t .level; threshold = t .threshold; second = t .second; distance = n }) s)
 numberFed WindowCount s t n =
-    provided (leb n 64) 10 (says [] (counted (cond (eqb n 0) (Number SampleCount) Index) n 0 s))
+    provided (leb n 64) 10 (says [] (counted (indexStage 0 n) n 0 s))
 numberFed SampleCount s t n =
     provided (eqb n (2310 * s .windows)) 10
-    (says (headLine (s .windows)) (counted (cond (eqb (s .windows) 0) End Samples) (s .windows) 0 s))
+    (says (headLine (s .windows)) (counted (samplesStage 0 (s .windows)) (s .windows) 0 s))
 
 -- ---- an index, a window
 
@@ -118,7 +125,7 @@ unfoldable pub indexFed : State → ℕ → Fed
 indexFed s index =
     provided (ltb (s .done) 64) 10
     (provided (eqb (indexNumber index) 0) 6
-    (says [] (kept (cond (ltb (s .done + 1) (s .windows)) Index (Number SampleCount)) index s)))
+    (says [] (kept (indexStage (s .done + 1) (s .windows)) index s)))
 
 -- what is said of a window whose samples came
 unfoldable pub samplesLine : State → List ℕ → List ℕ
@@ -129,7 +136,7 @@ unfoldable pub samplesFed : State → List ℕ → Fed
 samplesFed s part =
     provided (ltb (s .done) 64) 10
     (says (samplesLine s part)
-    (counted (cond (ltb (s .done + 1) (s .windows)) Samples End) (s .windows) (s .done + 1) s))
+    (counted (samplesStage (s .done + 1) (s .windows)) (s .windows) (s .done + 1) s))
 
 -- ---- the whole
 

@@ -4,7 +4,9 @@ use crate::Field;
 use crate::Stage;
 use crate::State;
 use crate::moves::counted;
+use crate::moves::index_stage;
 use crate::moves::refuses;
+use crate::moves::samples_stage;
 use crate::moves::silent;
 use crate::moves::told;
 use listing::lines::head_line;
@@ -90,10 +92,7 @@ fn fed_window_count(s: State, t: Settings, n: u32) -> Fed
     if n > 64 {
         return refuses(10);
     }
-    if n == 0 {
-        return silent(counted(Stage::Number(Field::SampleCount), n, 0, s));
-    }
-    silent(counted(Stage::Index, n, 0, s))
+    silent(counted(index_stage(0, n), n, 0, s))
 }
 
 fn fed_sample_count(s: State, t: Settings, n: u32) -> Fed
@@ -103,16 +102,9 @@ fn fed_sample_count(s: State, t: Settings, n: u32) -> Fed
     if n as u64 != 2310 * (windows as u64) {
         return refuses(10);
     }
-    let text = head_line(windows as u64);
-    if windows == 0 {
-        return Fed {
-            state: counted(Stage::End, windows, 0, s),
-            text,
-        };
-    }
     Fed {
-        state: counted(Stage::Samples, windows, 0, s),
-        text,
+        state: counted(samples_stage(0, windows), windows, 0, s),
+        text: head_line(windows as u64),
     }
 }
 
@@ -159,8 +151,5 @@ pub fn fed_index(s: State, index: u64) -> Fed
     if check_index(index) != 0 {
         return refuses(6);
     }
-    if done + 1 < s.windows {
-        return silent(kept(Stage::Index, index, s));
-    }
-    silent(kept(Stage::Number(Field::SampleCount), index, s))
+    silent(kept(index_stage(done + 1, s.windows), index, s))
 }

@@ -1,5 +1,6 @@
 // What becomes of a state.
 use crate::Fed;
+use crate::Field;
 use crate::Stage;
 use crate::State;
 use listing::Text;
@@ -7,7 +8,7 @@ use listing::lines::refused_line;
 use search::Settings;
 ghost use mathlib.Core.Path.{_≡_};
 ghost use mathlib.Core.List.{[]};
-ghost use Rattle.feed.specs.Machine.{blank as blankOf, says, refuses as refusesWith, told as toldOf, counted as countedOf};
+ghost use Rattle.feed.specs.Machine.{blank as blankOf, says, refuses as refusesWith, told as toldOf, counted as countedOf, indexStage, samplesStage};
 
 pub fn blank(stage: Stage) -> State
     ensures { λ r. ⌜ r ≡ blankOf stage ⌝ }
@@ -74,4 +75,24 @@ pub fn counted(stage: Stage, windows: u32, done: u32, s: State) -> State
         done,
         indices,
     }
+}
+
+// Where k of the indices came.
+pub fn index_stage(k: u32, windows: u32) -> Stage
+    ensures { λ r. ⌜ r ≡ indexStage k windows ⌝ }
+{
+    if k < windows {
+        return Stage::Index;
+    }
+    Stage::Number(Field::SampleCount)
+}
+
+// Where k of the windows came.
+pub fn samples_stage(k: u32, windows: u32) -> Stage
+    ensures { λ r. ⌜ r ≡ samplesStage k windows ⌝ }
+{
+    if k < windows {
+        return Stage::Samples;
+    }
+    Stage::End
 }

@@ -1,9 +1,9 @@
 // What is done with the samples of a window: they are decoded, and its line is printed.
 use crate::Fed;
-use crate::Stage;
 use crate::State;
 use crate::moves::counted;
 use crate::moves::refuses;
+use crate::moves::samples_stage;
 use listing::Text;
 use listing::lines::window_line;
 use receiver::decode::decode;
@@ -53,15 +53,8 @@ pub fn fed_samples(s: State, part: &[u8]) -> Fed
     if done >= 64 {
         return refuses(10);
     }
-    let text = line_of(s, part);
-    if done + 1 < windows {
-        return Fed {
-            state: counted(Stage::Samples, windows, done + 1, s),
-            text,
-        };
-    }
     Fed {
-        state: counted(Stage::End, windows, done + 1, s),
-        text,
+        state: counted(samples_stage(done + 1, windows), windows, done + 1, s),
+        text: line_of(s, part),
     }
 }

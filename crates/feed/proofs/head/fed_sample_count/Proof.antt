@@ -19,25 +19,23 @@ returns : tie.Need-returns
 unfolding provided
 returns c = simp (ne-eqb _ _ (c .before .if1 .taken)) (c .refuses .ensures)
 
+samples-stage-requires : tie.Need-samples-stage-requires
+samples-stage-requires c κs = search needs
+
+counted-requires : tie.Need-counted-requires
+counted-requires c κs = search needs
+
 cast-head-line : tie.Need-cast-head-line
 cast-head-line c = search needs
 
 head-line-requires : tie.Need-head-line-requires
 head-line-requires c κs = search needs
 
-counted-requires : tie.Need-counted-requires
-counted-requires c κs = search needs
-
 returns-2 : tie.Need-returns-2
 unfolding provided says
-returns-2 c = simp (eq-eqb _ _ (c .before .before .before .if1 .left), eq-eqb _ _ (c .before .if2 .taken)) (rw (c .counted .ensures, c .before .before .head-line .ensures))
-
-counted-requires-2 : tie.Need-counted-requires-2
-counted-requires-2 c κs = search needs
-
-returns-3 : tie.Need-returns-3
-unfolding provided says
-returns-3 c = simp (eq-eqb _ _ (c .before .before .before .if1 .left), ne-eqb _ _ (c .before .if2 .left)) (rw (c .counted2 .ensures, c .before .before .head-line .ensures))
+returns-2 c =
+    simp (eq-eqb _ _ (c .before .before .before .if1 .left))
+    (rw (c .before .counted .ensures, c .before .before .samples-stage .ensures, c .head-line .ensures))
 
 pub fed-sample-count-spec : {M : Type 1} → statement M
 fed-sample-count-spec =
@@ -47,9 +45,8 @@ fed-sample-count-spec =
     mul-if1
     refuses-requires
     returns
+    samples-stage-requires
+    counted-requires
     cast-head-line
     head-line-requires
-    counted-requires
-    returns-2
-    counted-requires-2
-    returns-3)
+    returns-2)

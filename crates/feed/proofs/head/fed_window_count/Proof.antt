@@ -1,9 +1,8 @@
 -- `feed::head::fed_window_count` meets its contract.
 -- Assumes nothing.
-use mathlib.Core.Path.{ap, _∙_}
-use mathlib.Core.List.{[]}
-use borrow.Author.Tests.{le-leb, lt-leb, eq-eqb, ne-eqb}
-use Rattle.feed.specs.Machine.{says, provided}
+use mathlib.Core.Path.{_∙_}
+use borrow.Author.Tests.{le-leb, lt-leb}
+use Rattle.feed.specs.Machine.{provided}
 use borrow.Author.Needs.{needs}
 use Rattle.feed.proofs.head.fed_window_count.Statement.{statement}
 use Rattle.feed.proofs.head.fed_window_count.Tie as tie
@@ -15,6 +14,9 @@ returns : tie.Need-returns
 unfolding provided
 returns c = simp (lt-leb _ _ (c .before .if1 .taken)) (c .refuses .ensures)
 
+index-stage-requires : tie.Need-index-stage-requires
+index-stage-requires c κs = search needs
+
 counted-requires : tie.Need-counted-requires
 counted-requires c κs = search needs
 
@@ -23,17 +25,9 @@ silent-requires c κs = search needs
 
 returns-2 : tie.Need-returns-2
 unfolding provided
-returns-2 c = simp (le-leb _ _ (c .before .before .before .if1 .left), eq-eqb _ _ (c .before .before .if2 .taken)) (c .silent .ensures ∙ ap (says []) (c .before .counted .ensures))
-
-counted-requires-2 : tie.Need-counted-requires-2
-counted-requires-2 c κs = search needs
-
-silent-requires-2 : tie.Need-silent-requires-2
-silent-requires-2 c κs = search needs
-
-returns-3 : tie.Need-returns-3
-unfolding provided
-returns-3 c = simp (le-leb _ _ (c .before .before .before .if1 .left), ne-eqb _ _ (c .before .before .if2 .left)) (c .silent2 .ensures ∙ ap (says []) (c .before .counted2 .ensures))
+returns-2 c =
+    simp (le-leb _ _ (c .before .before .before .if1 .left))
+    (c .silent .ensures ∙ rw (c .before .counted .ensures, c .before .before .index-stage .ensures))
 
 pub fed-window-count-spec : {M : Type 1} → statement M
 fed-window-count-spec =
@@ -41,9 +35,7 @@ fed-window-count-spec =
     (tie.spec
     refuses-requires
     returns
+    index-stage-requires
     counted-requires
     silent-requires
-    returns-2
-    counted-requires-2
-    silent-requires-2
-    returns-3)
+    returns-2)

@@ -13,11 +13,11 @@ returns : tie.Need-returns
 unfolding provided samplesFed
 returns c = simp (le-ltb _ _ (c .before .if1 .taken)) (c .refuses .ensures)
 
-line-of-requires : tie.Need-line-of-requires
-line-of-requires c κs = search needs
+add-samples-stage : tie.Need-add-samples-stage
+add-samples-stage c = search needs
 
-add-if2 : tie.Need-add-if2
-add-if2 c = search needs
+samples-stage-requires : tie.Need-samples-stage-requires
+samples-stage-requires c κs = search needs
 
 add-counted : tie.Need-add-counted
 add-counted c = search needs
@@ -25,19 +25,14 @@ add-counted c = search needs
 counted-requires : tie.Need-counted-requires
 counted-requires c κs = search needs
 
+line-of-requires : tie.Need-line-of-requires
+line-of-requires c κs = search needs
+
 returns-2 : tie.Need-returns-2
 unfolding provided samplesFed says
-returns-2 c = simp (lt-ltb _ _ (c .before .before .before .if1 .left), lt-ltb _ _ (c .before .if2 .taken)) (rw (c .counted .ensures, c .before .before .line-of .ensures))
-
-add-counted-2 : tie.Need-add-counted-2
-add-counted-2 c = search needs
-
-counted-requires-2 : tie.Need-counted-requires-2
-counted-requires-2 c κs = search needs
-
-returns-3 : tie.Need-returns-3
-unfolding provided samplesFed says
-returns-3 c = simp (lt-ltb _ _ (c .before .before .before .if1 .left), le-ltb _ _ (c .before .if2 .left)) (rw (c .counted2 .ensures, c .before .before .line-of .ensures))
+returns-2 c =
+    simp (lt-ltb _ _ (c .before .before .before .if1 .left))
+    (rw (c .before .counted .ensures, c .before .before .samples-stage .ensures, c .line-of .ensures))
 
 pub fed-samples-spec : {M : Type 1} → statement M
 fed-samples-spec =
@@ -45,11 +40,9 @@ fed-samples-spec =
     (tie.spec
     refuses-requires
     returns
-    line-of-requires
-    add-if2
+    add-samples-stage
+    samples-stage-requires
     add-counted
     counted-requires
-    returns-2
-    add-counted-2
-    counted-requires-2
-    returns-3)
+    line-of-requires
+    returns-2)

@@ -1,8 +1,6 @@
 -- `feed::parts::feed` meets its contract.
 -- Assumes nothing.
-use mathlib.Core.Path.{sym, ap, _∙_}
-use Rattle.feed.specs.declared.Stage.{Stage}
-use Rattle.feed.specs.Machine.{fedAt, fedOf}
+use Rattle.feed.proofs.Dispatch.{at-stage}
 use borrow.Author.Needs.{needs}
 use Rattle.feed.proofs.parts.feed.Statement.{statement}
 use Rattle.feed.proofs.parts.feed.Tie as tie
@@ -38,34 +36,19 @@ silent-requires : tie.Need-silent-requires
 silent-requires c κs = search needs
 
 returns : tie.Need-returns
-unfolding fedOf
-returns c =
-    let a = c .before .before .before .before .before .args in
-    c .with-number .ensures ∙ ap (λ (g : Stage). fedAt g (a .state) (a .part .now)) (sym (c .before .before .stage .given .1))
+returns c = at-stage _ _ (c .before .before .stage .given .1) (c .with-number .ensures)
 
 returns-2 : tie.Need-returns-2
-unfolding fedOf
-returns-2 c =
-    let a = c .before .before .before .before .args in
-    c .with-index .ensures ∙ ap (λ (g : Stage). fedAt g (a .state) (a .part .now)) (sym (c .before .enum-told .given .1))
+returns-2 c = at-stage _ _ (c .before .enum-told .given .1) (c .with-index .ensures)
 
 returns-3 : tie.Need-returns-3
-unfolding fedOf
-returns-3 c =
-    let a = c .before .before .before .before .args in
-    c .with-samples .ensures ∙ ap (λ (g : Stage). fedAt g (a .state) (a .part .now)) (sym (c .before .enum-told2 .given .1))
+returns-3 c = at-stage _ _ (c .before .enum-told2 .given .1) (c .with-samples .ensures)
 
 returns-4 : tie.Need-returns-4
-unfolding fedOf
-returns-4 c =
-    let a = c .before .before .before .before .args in
-    c .with-end .ensures ∙ ap (λ (g : Stage). fedAt g (a .state) (a .part .now)) (sym (c .before .enum-told3 .given .1))
+returns-4 c = at-stage _ _ (c .before .enum-told3 .given .1) (c .with-end .ensures)
 
 returns-5 : tie.Need-returns-5
-unfolding fedOf
-returns-5 c =
-    let a = c .before .before .before .before .args in
-    c .silent .ensures ∙ ap (λ (g : Stage). fedAt g (a .state) (a .part .now)) (sym (c .before .enum-told4 .given .1))
+returns-5 c = at-stage _ _ (c .before .enum-told4 .given .1) (c .silent .ensures)
 
 pub feed-spec : {M : Type 1} → statement M
 feed-spec =

@@ -2,9 +2,9 @@
 --     Prints, After     within so many steps a state, or what becomes of one, prints what f says of how the input stops and of what is left
 --     prints-part       a state that wants a part
 -- Assumes nothing.
-use mathlib.Core.Path.{_≡_, refl, sym, ap, _∙_}
-use mathlib.Core.Bool.{Bool, true, false, cond}
-use mathlib.Core.List.{List, [], _∷_, _++_, append-nil}
+use mathlib.Core.Path.{_≡_, refl, _∙_}
+use mathlib.Core.Bool.{Bool, true, false}
+use mathlib.Core.List.{List, [], _++_, append-nil}
 use Prim.Native.Nat.{ℕ, zero, suc, _-_, _≤_, _<_}
 use native.Mathlib.Nat.{le-trans, le-of-suc-le-suc, not-suc-le-zero}
 use native.Mathlib.Omega.{arith}
@@ -12,13 +12,15 @@ use borrow.Author.Tests.{leb-true, leb-false, ne-eqb, eq-eqb}
 use lib.Dec.{eqb, leb}
 use lib.ListN.{length, take, drop, replicate}
 use lib.Seq.{length-take-le, take-append-seam}
+use Rattle.search.specs.declared.Settings.{Settings}
+use Rattle.words.specs.Words.{littleEndian}
 use Rattle.listing.specs.Lines.{refusedLine, textOf}
-use Rattle.feed.specs.declared.Stage.the-variants.{End, Over}
+use Rattle.feed.specs.declared.Field.{Field}
+use Rattle.feed.specs.declared.Stage.the-variants.{Number, Over}
 use Rattle.feed.specs.declared.State.{State}
 use Rattle.feed.specs.declared.Fed.{Fed}
-use Rattle.feed.specs.Parts.{Stop, end, failure, next, need}
-use Rattle.feed.specs.Listing.{ending}
-use Rattle.feed.specs.Machine.{wantedOf, blank, says, refuses, provided, sized, fedOf, failedOf}
+use Rattle.feed.specs.Parts.{Stop, end, failure, next, nextNumber, need}
+use Rattle.feed.specs.Machine.{wantedOf, blank, says, refuses, provided, sized, numberFed, fedOf, failedOf}
 use Rattle.feed.specs.Run.{shown, shortFed, readFed, printed}
 
 pub record Prints (n : ℕ) (s : State) (f : Stop → List ℕ → List ℕ) : Type 0 where
@@ -104,3 +106,19 @@ module _
 
   pub prints-part : Prints (suc n) s (λ stop input. next w input (h stop))
   prints-part = record { so = all }
+
+-- a state that wants a number of 32 bits
+pub prints-number : (n : ℕ) (f : Field) (t : Settings) (w k : ℕ) (xs : List ℕ) (h : Stop → ℕ → List ℕ → List ℕ)
+    → ((x : ℕ)
+    → After n (numberFed f (record { stage = Number f; settings = t; windows = w; done = k; indices = xs }) t x)
+    (λ stop rest. h stop x rest))
+    → Prints (suc n)
+    (record { stage = Number f; settings = t; windows = w; done = k; indices = xs })
+    (λ stop input. nextNumber 4 input (h stop))
+unfolding wantedOf fedOf nextNumber
+prints-number n f t w k xs h after =
+    prints-part n 4
+    (record { stage = Number f; settings = t; windows = w; done = k; indices = xs })
+    (λ part. numberFed f (record { stage = Number f; settings = t; windows = w; done = k; indices = xs }) t (littleEndian part))
+    (λ stop part rest. h stop (littleEndian part) rest)
+    refl (omega arith) (λ part. refl) (λ part e. after (littleEndian part))

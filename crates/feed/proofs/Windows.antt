@@ -38,7 +38,7 @@ use Rattle.feed.specs.Machine.{
   failedOf
 }
 use Rattle.feed.specs.Run.{shown, readFed, printed}
-use Rattle.feed.proofs.Printing.{Prints, After, prints-over, after-says, after-refuses, after-provided, prints-part}
+use Rattle.feed.proofs.Printing.{Prints, After, prints-over, after-says, after-refuses, after-provided, prints-part, prints-number}
 
 -- k of w windows came
 abbrev rows : Settings → ℕ → ℕ → List ℕ → State
@@ -99,17 +99,12 @@ pub prints-samples : (t : Settings) (w k : ℕ) (xs : List ℕ) → w ≤ 64 →
     → Prints (suc (suc w))
     (record { stage = Number SampleCount; settings = t; windows = w; done = k; indices = xs })
     (λ stop input. samplesListing stop t (take w xs) input)
-unfolding wantedOf fedOf samplesListing nextNumber
+unfolding samplesListing
 prints-samples t w k xs l size =
+    let enough : w ≤ length xs = omega arith in
     simp (length-take-le w xs enough)
-    (prints-part (suc w) 4 s (λ part. numberFed SampleCount s t (littleEndian part))
-    (λ stop part rest. need (eqb (littleEndian part) (2310 * w)) 10 (headLine w ++ windowLines stop t 0 (take w xs) rest))
-    refl (omega arith) (λ part. refl)
-    (λ part e.
-    after-provided (eqb (littleEndian part) (2310 * w)) 10
+    (prints-number (suc w) SampleCount t w k xs
+    (λ stop count rest. need (eqb count (2310 * w)) 10 (headLine w ++ windowLines stop t 0 (take w xs) rest))
+    (λ count.
+    after-provided (eqb count (2310 * w)) 10
     (λ same. after-says (headLine w) (prints-rows t w w 0 xs (zero-add w) l size))))
-  where
-  s : State
-  s = record { stage = Number SampleCount; settings = t; windows = w; done = k; indices = xs }
-  enough : w ≤ length xs
-  enough = omega arith

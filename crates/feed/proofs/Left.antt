@@ -21,7 +21,7 @@ use Rattle.feed.specs.declared.Field.the-variants.{
   Second,
   Distance,
   WindowCount,
-  SampleCount
+  SampleCount,
 }
 use Rattle.feed.specs.declared.Stage.{Stage}
 use Rattle.feed.specs.declared.Stage.the-variants.{Number, Index, Samples, End, Over}
@@ -41,7 +41,7 @@ use Rattle.feed.specs.Machine.{
   sized,
   fedAt,
   fedOf,
-  failedOf
+  failedOf,
 }
 use Rattle.feed.specs.Statement.{leftFrom, leftAt, leftOf}
 
@@ -132,3 +132,15 @@ over-at Over s part e = refl
 pub over : (s : State) (part : List ℕ) → wantedOf s ≡ 0 → (fedOf s part ≡ says [] s) × (failedOf s ≡ says [] s)
 unfolding fedOf wantedOf failedOf
 over s part e = (over-at (s .stage) s part e, simp (eq-eqb (wantedOf s) 0 e))
+
+-- no part is longer than the samples of a window
+most-at : (g : Stage) → wantedAt g ≤ 9240
+most-at (Number f) = omega arith
+most-at Index = omega arith
+most-at Samples = omega arith
+most-at End = omega arith
+most-at Over = omega arith
+
+pub wanted-most : (s : State) → wantedOf s ≤ 9240
+unfolding wantedOf
+wanted-most s = most-at (s .stage)

@@ -22,7 +22,7 @@ use Rattle.feed.specs.declared.Field.the-variants.{
   Threshold,
   Second,
   Distance,
-  WindowCount
+  WindowCount,
 }
 use Rattle.feed.specs.declared.Stage.the-variants.{Number, Index}
 use Rattle.feed.specs.declared.State.{State}
@@ -55,9 +55,9 @@ module _ (t : Settings) where
       refl (omega arith) (λ part. refl)
       (λ part e. taken (littleEndian part))
     where
-    taken : (index : ℕ) → After n (indexFed (wanting t w k xs) index)
-        (λ stop rest. need (eqb (indexNumber index) 0) 6 (f index stop rest))
-    taken index = simp (lt-ltb k 64 h) (after-provided (eqb (indexNumber index) 0) 6 (λ good. after-says [] (p index)))
+      taken : (index : ℕ) → After n (indexFed (wanting t w k xs) index)
+          (λ stop rest. need (eqb (indexNumber index) 0) 6 (f index stop rest))
+      taken index = simp (lt-ltb k 64 h) (after-provided (eqb (indexNumber index) 0) 6 (λ good. after-says [] (p index)))
 
   -- m indices from the k-th on
   pub prints-indices : (m w k : ℕ) (xs : List ℕ) → k + m ≡ w → w ≤ 64 → length xs ≡ 64

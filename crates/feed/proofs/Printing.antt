@@ -76,36 +76,36 @@ module _
     (fed : (part : List ℕ) → fedOf s part ≡ sized w part (g part))
     (after : (part : List ℕ) → length part ≡ w → After n (g part) (λ stop rest. h stop part rest))
   where
-  wanted-some : eqb w 0 ≡ false
-  wanted-some = ne-eqb w 0 (λ e. omega arith)
+    wanted-some : eqb w 0 ≡ false
+    wanted-some = ne-eqb w 0 (λ e. omega arith)
 
-  whole : (steps : ℕ) (stop : Stop) (input : List ℕ) → n ≤ steps → w ≤ length input
-      → shown (fedOf s (take w input) .text) ++ printed steps stop (fedOf s (take w input) .state) (drop w input)
-      ≡ h stop (take w input) (drop w input)
-  unfolding sized provided
-  whole steps stop input l enough =
-      let e : length (take w input) ≡ w = length-take-le w input enough in
-      rw (fed (take w input), eq-eqb _ _ e) (after (take w input) e .so steps stop (drop w input) l)
+    whole : (steps : ℕ) (stop : Stop) (input : List ℕ) → n ≤ steps → w ≤ length input
+        → shown (fedOf s (take w input) .text) ++ printed steps stop (fedOf s (take w input) .state) (drop w input)
+        ≡ h stop (take w input) (drop w input)
+    unfolding sized provided
+    whole steps stop input l enough =
+        let e : length (take w input) ≡ w = length-take-le w input enough in
+        rw (fed (take w input), eq-eqb _ _ e) (after (take w input) e .so steps stop (drop w input) l)
 
-  short : (stop : Stop) (input : List ℕ) → length input < w → shortFed stop s input ≡ refuses 10
-  unfolding sized provided failedOf
-  short end input less = rw (fed input, ne-eqb (length input) w (λ e. omega arith))
-  short failure input less = rw (wants, wanted-some)
+    short : (stop : Stop) (input : List ℕ) → length input < w → shortFed stop s input ≡ refuses 10
+    unfolding sized provided failedOf
+    short end input less = rw (fed input, ne-eqb (length input) w (λ e. omega arith))
+    short failure input less = rw (wants, wanted-some)
 
-  step : (steps : ℕ) (stop : Stop) (input : List ℕ) (b : Bool) → leb w (length input) ≡ b → n ≤ steps
-      → printed (suc steps) stop s input ≡ next w input (h stop)
-  unfolding printed readFed next
-  step steps stop input true e l = simp (wants, wanted-some, e) (whole steps stop input l (leb-true _ _ e))
-  step steps stop input false e l =
-      simp (wants, wanted-some, e, short stop input (leb-false _ _ e))
-      (after-refuses n 10 .so steps stop (drop w input) l)
+    step : (steps : ℕ) (stop : Stop) (input : List ℕ) (b : Bool) → leb w (length input) ≡ b → n ≤ steps
+        → printed (suc steps) stop s input ≡ next w input (h stop)
+    unfolding printed readFed next
+    step steps stop input true e l = simp (wants, wanted-some, e) (whole steps stop input l (leb-true _ _ e))
+    step steps stop input false e l =
+        simp (wants, wanted-some, e, short stop input (leb-false _ _ e))
+        (after-refuses n 10 .so steps stop (drop w input) l)
 
-  all : (steps : ℕ) (stop : Stop) (input : List ℕ) → suc n ≤ steps → printed steps stop s input ≡ next w input (h stop)
-  all zero stop input l = absurd (not-suc-le-zero l)
-  all (suc steps) stop input l = step steps stop input (leb w (length input)) refl (le-of-suc-le-suc l)
+    all : (steps : ℕ) (stop : Stop) (input : List ℕ) → suc n ≤ steps → printed steps stop s input ≡ next w input (h stop)
+    all zero stop input l = absurd (not-suc-le-zero l)
+    all (suc steps) stop input l = step steps stop input (leb w (length input)) refl (le-of-suc-le-suc l)
 
-  pub prints-part : Prints (suc n) s (λ stop input. next w input (h stop))
-  prints-part = record { so = all }
+    pub prints-part : Prints (suc n) s (λ stop input. next w input (h stop))
+    prints-part = record { so = all }
 
 -- a state that wants a number of 32 bits
 pub prints-number : (n : ℕ) (f : Field) (t : Settings) (w k : ℕ) (xs : List ℕ) (h : Stop → ℕ → List ℕ → List ℕ)

@@ -35,7 +35,7 @@ use Rattle.feed.specs.Machine.{
   samplesLine,
   samplesFed,
   fedOf,
-  failedOf
+  failedOf,
 }
 use Rattle.feed.specs.Run.{shown, readFed, printed}
 use Rattle.feed.proofs.Printing.{Prints, After, prints-over, after-says, after-refuses, after-provided, prints-part, prints-number}
@@ -79,9 +79,9 @@ module _ (t : Settings) where
       refl (omega arith) (λ part. refl)
       (λ part e. taken part)
     where
-    taken : (part : List ℕ) → After n (samplesFed (listing t w k xs) part)
-        (λ stop rest. windowLine k (decodeOf (tabulate 2310 (floatAt part)) t (getD xs k 0)) ++ f stop rest)
-    taken part = simp (lt-ltb k 64 h) (after-says (windowLine k (decodeOf (tabulate 2310 (floatAt part)) t (getD xs k 0))) p)
+      taken : (part : List ℕ) → After n (samplesFed (listing t w k xs) part)
+          (λ stop rest. windowLine k (decodeOf (tabulate 2310 (floatAt part)) t (getD xs k 0)) ++ f stop rest)
+      taken part = simp (lt-ltb k 64 h) (after-says (windowLine k (decodeOf (tabulate 2310 (floatAt part)) t (getD xs k 0))) p)
 
   -- m windows from the k-th on
   pub prints-rows : (m w k : ℕ) (xs : List ℕ) → k + m ≡ w → w ≤ 64 → length xs ≡ 64

@@ -12,7 +12,7 @@ use Rattle.feed.specs.declared.Field.the-variants.{
   Second,
   Distance,
   WindowCount,
-  SampleCount
+  SampleCount,
 }
 use Rattle.feed.specs.declared.Stage.{Stage}
 use Rattle.feed.specs.declared.Stage.the-variants.{Number, Index, Samples, End, Over}

@@ -9,7 +9,7 @@ use lib.Ieee.{Float, binary32, add, sub, lt, le, isNan}
 use Rattle.floats.proofs.Nan.{le-number-r}
 use Rattle.floats.proofs.Order.{lt-transitive, lt-asymmetric}
 use Rattle.floats.proofs.Compare.{lt-le, le-not-lt}
-use Rattle.timing.specs.Subsample.{one, halves, move, turn, moved}
+use Rattle.timing.specs.Subsample.{one, halves, move, turn, gained}
 use Rattle.timing.proofs.Turning.{Upped, Downed, InRange, which, rests-nan, goes-up, goes-down, move-up, move-down, move-rest, turn-up, turn-down, turn-rest}
 use Rattle.claims.specs.Timing.{movesFor}
 
@@ -44,8 +44,8 @@ above-more f h = go (le (halves false 3) f) refl
         false-to-lt true q z l = lt-asymmetric (halves false 1) f l (subst T (sym q) tt)
         false-to-lt false q z l = true≢false z
 
-pub moves-are : (f : Float) → InRange f → moved f ≡ movesFor f
-unfolding moved
+pub moves-are : (f : Float) → InRange f → gained f ≡ movesFor f
+unfolding gained
 moves-are f r = elim (which f) [
   | inl h ↦ back h r
   | inr w ↦ elim w [

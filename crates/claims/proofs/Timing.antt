@@ -13,14 +13,14 @@ use Rattle.floats.proofs.Nan.{nan-is}
 use Rattle.place.specs.declared.Place.{Place}
 use Rattle.place.specs.Step.{sampleStart}
 use Rattle.timing.specs.declared.Offset.{Offset}
-use Rattle.timing.specs.Subsample.{fractionOf, rest, moved, movesOf, timingOf}
+use Rattle.timing.specs.Subsample.{fractionOf, afterMoves, gained, movesOf, timingOf}
 use Rattle.timing.specs.Exact.{LessBy}
 use Rattle.timing.proofs.Reach.{fraction-reaches}
 use Rattle.timing.proofs.Laws.{reaches, ends-in-range, nan-stays, at-most-two}
 use Rattle.timing.proofs.Moving.{moves-exact}
 use Rattle.search.specs.declared.Candidate.{Candidate}
 use Rattle.search.specs.Seen.{windowOf}
-use Rattle.search.specs.Timed.{promptOf, about, fractionAt, timingAt, indexOf}
+use Rattle.search.specs.When.{promptOf, about, fractionAt, timingAt, indexOf}
 use Rattle.search.specs.Answers.{answerOf}
 use Rattle.claims.specs.Timing.{movesFor, WellTimed}
 use Rattle.claims.proofs.Moves.{moves-are}
@@ -48,13 +48,13 @@ timed samples index c h =
     let t = fraction-fits (about w (c .message) p) (p .offset) in
     let r = reaches (about w (c .message) p) (p .offset) in
     let two = at-most-two f in
-    let m : moved f ≡ movesFor f = moves-are f (fraction-reaches (about w (c .message) p) (p .offset)) in
+    let m : gained f ≡ movesFor f = moves-are f (fraction-reaches (about w (c .message) p) (p .offset)) in
     record {
       gained =
-          moved-index index start (moved f) (omega arith)
-          ∙ ap (λ (i : ℕ). pos i +ℤ moved f) (by-hand index (c .place))
+          moved-index index start (gained f) (omega arith)
+          ∙ ap (λ (i : ℕ). pos i +ℤ gained f) (by-hand index (c .place))
           ∙ ap (λ (k : ℤ). pos (index - 128 + 4 * (2 * c .place .bit + c .place .symbol) + c .place .phase) +ℤ k) m;
-      lost = λ e. subst (λ (k : ℤ). LessBy k f (rest f)) m (moves-exact f t r e);
+      lost = λ e. subst (λ (k : ℤ). LessBy k f (afterMoves f)) m (moves-exact f t r e);
       within = ends-in-range f t r;
-      nan-stays = λ e. let n = nan-is f e in ap isNan (ap rest n ∙ nan-stays .0 ∙ sym n) ∙ e;
+      nan-stays = λ e. let n = nan-is f e in ap isNan (ap afterMoves n ∙ nan-stays .0 ∙ sym n) ∙ e;
     }

@@ -11,7 +11,7 @@ use Rattle.timing.specs.Subsample.{halves}
 use Rattle.timing.specs.Exact.{LessBy}
 use Rattle.search.specs.declared.Answer.{Answer}
 use Rattle.search.specs.Seen.{windowOf}
-use Rattle.search.specs.Timed.{fractionAt}
+use Rattle.search.specs.When.{fractionAt}
 
 -- the fraction before any sample moves: the parabola about the prompt, held to [-1, 1], plus the offset, minus 0.5
 abbrev pub fractionFor : List Float → Answer → Float

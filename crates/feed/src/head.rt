@@ -11,7 +11,7 @@ use crate::moves::silent;
 use crate::moves::told;
 use listing::lines::head_line;
 use math::is_finite;
-use receiver::settings::check_index;
+use choice::settings::check_index;
 use search::Settings;
 use words::float::float_of;
 ghost use mathlib.Core.Path.{_≡_};

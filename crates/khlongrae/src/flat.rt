@@ -2,7 +2,7 @@
 use annex10::Repairs;
 use place::Slicer;
 use search::Answer;
-use trials::choice::repairs_of;
+use choice::best::repairs_of;
 ghost use mathlib.Core.Path.{_≡_};
 ghost use Rattle.khlongrae.specs.Flat.{firstOf, secondOf, slicerCode, wordsOf, numbersOf};
 

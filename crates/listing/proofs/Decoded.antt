@@ -32,17 +32,18 @@ use Rattle.place.proofs.All.{member-listed}
 use Rattle.cn0.specs.Logarithm.{tenLog10}
 use Rattle.cn0.specs.Estimate.{cn0Of}
 use Rattle.timing.specs.declared.Offset.{Offset}
-use Rattle.timing.specs.Subsample.{one, halves, move, rest, fractionOf, timingOf}
+use Rattle.timing.specs.Subsample.{one, halves, move, afterMoves, fractionOf, timingOf}
 use Rattle.timing.specs.declared.Moves.{Moves}
 use Rattle.timing.specs.declared.Moves.the-variants.{Back, On}
-use Rattle.timing.proofs.Laws.{countOf, few-moves}
+use Rattle.timing.specs.Inner.{movesCount}
+use Rattle.timing.proofs.Laws.{few-moves}
 use Rattle.search.specs.declared.Settings.{Settings}
 use Rattle.search.specs.declared.Candidate.{Candidate}
 use Rattle.search.specs.declared.Reading.{Reading}
 use Rattle.search.specs.Choice.{Window, _∈_, candidate, candidateAt, best}
 use Rattle.search.specs.Kinds.{long}
 use Rattle.search.specs.Seen.{stream, bitsAt, windowOf}
-use Rattle.search.specs.Timed.{timingAt, moved, indexOf}
+use Rattle.search.specs.When.{timingAt, moved, indexOf}
 use Rattle.search.specs.Answers.{orNumber, windowNumber, settingsNumber, indexNumber, refusedAnswer, answerOf, answered, decodeOf}
 use Rattle.search.proofs.Passing.{sound}
 use Rattle.search.proofs.Scanning.{not-some, scan-from, survivor-is}
@@ -107,12 +108,12 @@ move-fits f h =
     cond-fits binary32 (lt f (halves true 1)) _ _ (add-fits binary32 f one) (cond-fits binary32 (le (halves false 1) f) _ _ (sub-fits binary32 f one) h)
 
 timing-fits : (parabola : Float) (offset : Offset) → T (fits binary32 (timingOf (fractionOf parabola offset) .fraction))
-unfolding timingOf rest fractionOf
+unfolding timingOf afterMoves fractionOf
 timing-fits parabola offset = move-fits _ (move-fits _ (sub-fits binary32 _ _))
 
 -- ---- the index
 
-moved-few : (m : Moves) (i : ℕ) → countOf m ≤ 2 → moved m i ≤ i + 2
+moved-few : (m : Moves) (i : ℕ) → movesCount m ≤ 2 → moved m i ≤ i + 2
 moved-few (On n) i h = omega arith
 moved-few (Back n) i h = omega arith
 

@@ -24,21 +24,23 @@ use Rattle.timing.specs.declared.Moves.{Moves}
 use Rattle.timing.specs.declared.Moves.the-variants.{Back, On}
 use Rattle.timing.specs.declared.Timing.{Timing}
 use Rattle.timing.specs.Subsample.{fractionOf}
-use Rattle.timing.proofs.Laws.{few-moves, countOf}
+use Rattle.timing.specs.Inner.{movesCount}
+use Rattle.timing.proofs.Laws.{few-moves}
 use Rattle.kernels.specs.Symbols.{symbolsOf}
 use Rattle.search.specs.declared.Settings.{Settings}
 use Rattle.search.specs.declared.Candidate.{Candidate}
-use Rattle.search.specs.declared.Read.{Read}
-use Rattle.search.specs.declared.Timed.{Timed}
+use Rattle.search.specs.declared.Survivor.{Survivor}
+use Rattle.search.specs.declared.Arrival.{Arrival}
 use Rattle.search.specs.declared.Answer.{Answer}
 use Rattle.search.specs.Choice.{candidate, candidateAt, best}
 use Rattle.search.specs.Window.{Window}
 use Rattle.search.specs.Kinds.{long}
 use Rattle.search.specs.Seen.{row, promptAt, windowOf}
-use Rattle.search.specs.Timed.{promptOf, about, timingAt, indexOf}
-use Rattle.search.specs.Answers.{orNumber, windowNumber, settingsNumber, indexNumber, placeNumber, zero32, noCandidate, refusedAnswer, readOf, readOr, readAt, bestOf, timedAt, answerOf, decodeOf}
+use Rattle.search.specs.When.{promptOf, about, timingAt, indexOf}
+use Rattle.floats.specs.Zero.{zeroF}
+use Rattle.search.specs.Answers.{orNumber, windowNumber, settingsNumber, indexNumber, placeNumber, noCandidate, refusedAnswer, survivorOf, survivorOr, readAt, bestOf, arrivalAt, answerOf, decodeOf}
 use Rattle.search.proofs.Scanning.{scan-from, survivor-is, not-some}
-use Rattle.receiver.specs.Inner.{powerIn, seenIn, movesCount, timedIn}
+use Rattle.receiver.specs.Inner.{powerIn, seenIn, arrivalIn}
 use Rattle.receiver.proofs.Prompting.{timing-seen}
 
 -- ---- what a number 0 says
@@ -110,13 +112,13 @@ module _ (samples : List Float) {n : ℕ} (z : n ≡ 0) where
 
 -- ---- what a search found
 
-pub read-some : (o : Option Candidate) {x : Read} → x ≡ readOf o → x .number ≡ 0 → o ≡ some (x .candidate)
-read-some none e z = absurd (omega (arith, ap (λ (r : Read). r .number) e))
-read-some (some c) e z = ap some (sym (ap (λ (r : Read). r .candidate) e))
+pub read-some : (o : Option Candidate) {x : Survivor} → x ≡ survivorOf o → x .number ≡ 0 → o ≡ some (x .candidate)
+read-some none e z = absurd (omega (arith, ap (λ (r : Survivor). r .number) e))
+read-some (some c) e z = ap some (sym (ap (λ (r : Survivor). r .candidate) e))
 
-pub read-none : (o : Option Candidate) {x : Read} → x ≡ readOf o → x .number ≢ 0 → o ≡ none
+pub read-none : (o : Option Candidate) {x : Survivor} → x ≡ survivorOf o → x .number ≢ 0 → o ≡ none
 read-none none e z = refl
-read-none (some c) e z = absurd (z (ap (λ (r : Read). r .number) e))
+read-none (some c) e z = absurd (z (ap (λ (r : Survivor). r .number) e))
 
 place-of : (s : Settings) (w : Window) (p : Place) {a : Candidate} → candidateAt long s w p ≡ some a → a .place ≡ p
 unfolding candidateAt candidate
@@ -144,50 +146,46 @@ best-power s samples e = elim (scan-from (candidateAt long s (windowOf 14 sample
 
 -- ---- timing
 
-same-count : (m : Moves) → movesCount m ≡ countOf m
-same-count (Back n) = refl
-same-count (On n) = refl
-
 pub moves-few : (w : Window) (message : List ℕ) (s : ℕ) {t : Timing} → t ≡ timingAt w message s → movesCount (t .moves) ≤ 2
 unfolding timingAt
-moves-few w message s e = rw (e, same-count) (few-moves (fractionOf (about w message (promptOf w message s)) (promptOf w message s .offset)))
+moves-few w message s e = rw e (few-moves (fractionOf (about w message (promptOf w message s)) (promptOf w message s .offset)))
 
 pub timed-is : (symbols : List Float) (p : Place) (message : List ℕ) (index : ℕ) {t : Timing} {i : ℕ} → t ≡ timingAt (seenIn symbols) message (sampleStart p)
-    → i ≡ indexOf index (sampleStart p) (t .moves) → record { number = 0; index = i; fraction = t .fraction } ≡ timedIn symbols p message index
-unfolding timedIn
+    → i ≡ indexOf index (sampleStart p) (t .moves) → record { number = 0; index = i; fraction = t .fraction } ≡ arrivalIn symbols p message index
+unfolding arrivalIn
 timed-is symbols p message index et ei = rw (ei, et)
 
 -- ---- the answers
 
 module _ (samples : List Float) {n : ℕ} where
-  pub read-refused : (s : Settings) (p : Place) {x : Read} → n ≡ orNumber (windowNumber samples) (orNumber (settingsNumber s) (placeNumber p))
+  pub read-refused : (s : Settings) (p : Place) {x : Survivor} → n ≡ orNumber (windowNumber samples) (orNumber (settingsNumber s) (placeNumber p))
       → n ≢ 0 → x ≡ record { number = n; candidate = noCandidate } → x ≡ readAt samples s p
-  unfolding readAt readOr
+  unfolding readAt survivorOr
   read-refused s p e h ex = rw (← e, ne-eqb n 0 h) ex
 
-  pub read-done : (s : Settings) (p : Place) {x : Read} → n ≡ orNumber (windowNumber samples) (orNumber (settingsNumber s) (placeNumber p))
-      → n ≡ 0 → x ≡ readOf (candidateAt long s (windowOf 14 samples) p) → x ≡ readAt samples s p
-  unfolding readAt readOr
+  pub read-done : (s : Settings) (p : Place) {x : Survivor} → n ≡ orNumber (windowNumber samples) (orNumber (settingsNumber s) (placeNumber p))
+      → n ≡ 0 → x ≡ survivorOf (candidateAt long s (windowOf 14 samples) p) → x ≡ readAt samples s p
+  unfolding readAt survivorOr
   read-done s p e z ex = rw (← e, eq-eqb n 0 z) ex
 
-  pub best-refused : (s : Settings) {x : Read} → n ≡ orNumber (windowNumber samples) (settingsNumber s)
+  pub best-refused : (s : Settings) {x : Survivor} → n ≡ orNumber (windowNumber samples) (settingsNumber s)
       → n ≢ 0 → x ≡ record { number = n; candidate = noCandidate } → x ≡ bestOf samples s
-  unfolding bestOf readOr
+  unfolding bestOf survivorOr
   best-refused s e h ex = rw (← e, ne-eqb n 0 h) ex
 
-  pub best-done : (s : Settings) {x : Read} → n ≡ orNumber (windowNumber samples) (settingsNumber s)
-      → n ≡ 0 → x ≡ readOf (best long s (windowOf 14 samples)) → x ≡ bestOf samples s
-  unfolding bestOf readOr
+  pub best-done : (s : Settings) {x : Survivor} → n ≡ orNumber (windowNumber samples) (settingsNumber s)
+      → n ≡ 0 → x ≡ survivorOf (best long s (windowOf 14 samples)) → x ≡ bestOf samples s
+  unfolding bestOf survivorOr
   best-done s e z ex = rw (← e, eq-eqb n 0 z) ex
 
   pub time-refused : (p : Place) (message : List ℕ) (index : ℕ) → n ≡ orNumber (windowNumber samples) (orNumber (indexNumber index) (placeNumber p))
-      → n ≢ 0 → record { number = n; index = 0; fraction = zero32 } ≡ timedAt samples p message index
-  unfolding timedAt
+      → n ≢ 0 → record { number = n; index = 0; fraction = zeroF } ≡ arrivalAt samples p message index
+  unfolding arrivalAt
   time-refused p message index e h = rw (← e, ne-eqb n 0 h)
 
-  pub time-done : (p : Place) (message : List ℕ) (index : ℕ) {x : Timed} → n ≡ orNumber (windowNumber samples) (orNumber (indexNumber index) (placeNumber p))
-      → n ≡ 0 → x ≡ timedIn (symbolsOf samples) p message index → x ≡ timedAt samples p message index
-  unfolding timedAt timedIn
+  pub time-done : (p : Place) (message : List ℕ) (index : ℕ) {x : Arrival} → n ≡ orNumber (windowNumber samples) (orNumber (indexNumber index) (placeNumber p))
+      → n ≡ 0 → x ≡ arrivalIn (symbolsOf samples) p message index → x ≡ arrivalAt samples p message index
+  unfolding arrivalAt arrivalIn
   time-done p message index e z ex = rw (← e, eq-eqb n 0 z) (ex ∙ rw (timing-seen samples message (sampleStart p)))
 
   pub decode-refused : (s : Settings) (index : ℕ) {x : Answer} → n ≡ orNumber (windowNumber samples) (orNumber (settingsNumber s) (indexNumber index))
@@ -200,9 +198,9 @@ module _ (samples : List Float) {n : ℕ} where
   unfolding decodeOf
   decode-none s index e z b ex = rw (← e, eq-eqb n 0 z, b) ex
 
-  pub decode-done : (s : Settings) (index : ℕ) (c : Candidate) {t : Timed} → n ≡ orNumber (windowNumber samples) (orNumber (settingsNumber s) (indexNumber index))
-      → n ≡ 0 → best long s (windowOf 14 samples) ≡ some c → t ≡ timedIn (symbolsOf samples) (c .place) (c .message) index
+  pub decode-done : (s : Settings) (index : ℕ) (c : Candidate) {t : Arrival} → n ≡ orNumber (windowNumber samples) (orNumber (settingsNumber s) (indexNumber index))
+      → n ≡ 0 → best long s (windowOf 14 samples) ≡ some c → t ≡ arrivalIn (symbolsOf samples) (c .place) (c .message) index
       → record { number = 0; place = c .place; message = c .message; repairs = c .repairs; slicer = c .slicer; cn0 = c .cn0; index = t .index; fraction = t .fraction }
       ≡ decodeOf samples s index
-  unfolding decodeOf answerOf timedIn
+  unfolding decodeOf answerOf arrivalIn
   decode-done s index c e z b et = rw (← e, eq-eqb n 0 z, b, et, timing-seen samples (c .message) (sampleStart (c .place)))

@@ -32,13 +32,13 @@ use Rattle.search.specs.declared.Reading.{Reading}
 use Rattle.search.specs.declared.Tried.{Tried}
 use Rattle.search.specs.declared.Tried.the-variants.{Pass, Fail}
 use Rattle.search.specs.declared.Candidate.{Candidate}
-use Rattle.search.specs.declared.Read.{Read}
+use Rattle.search.specs.declared.Survivor.{Survivor}
 use Rattle.search.specs.Trials.{reading}
 use Rattle.search.specs.Choice.{candidate, dropped, survivor, candidateAt, scan, best}
 use Rattle.search.specs.Window.{Window}
 use Rattle.search.specs.Kinds.{long}
 use Rattle.search.specs.Seen.{row, stream, bitsAt, promptAt, noiseAt, windowOf}
-use Rattle.search.specs.Answers.{readOf}
+use Rattle.search.specs.Answers.{survivorOf}
 use Rattle.hash.specs.Inner.{foundOf}
 use Rattle.receiver.proofs.Turns.{none-read}
 use Rattle.receiver.specs.Inner.{rowsOf, Ready, Streams, Known, seenAt}
@@ -138,9 +138,9 @@ module _ (samples symbols : List Float) (coherent noncoherent crcs codes : List 
         low = omega arith;
       }
 
-  pub lent-read : (s : Settings) {x : Read}
-      → x ≡ readOf (candidateAt long s (seenAt samples (take i (drop (576 * p .phase) symbols)) (take j (drop at coherent)) (take j (drop at noncoherent))) p)
-      → x ≡ readOf (candidateAt long s (windowOf 14 samples) p)
+  pub lent-read : (s : Settings) {x : Survivor}
+      → x ≡ survivorOf (candidateAt long s (seenAt samples (take i (drop (576 * p .phase) symbols)) (take j (drop at coherent)) (take j (drop at noncoherent))) p)
+      → x ≡ survivorOf (candidateAt long s (windowOf 14 samples) p)
   lent-read s e =
       let r : take i (drop (576 * p .phase) symbols) ≡ row samples (p .phase)
       = ap (λ (n : ℕ). take n (drop (576 * p .phase) symbols)) ei ∙ row-is samples symbols coherent noncoherent crcs codes ready p h in
@@ -148,7 +148,7 @@ module _ (samples symbols : List Float) (coherent noncoherent crcs codes : List 
       = ap (λ (n : ℕ). take n (drop at coherent)) ej ∙ first-is samples symbols coherent noncoherent crcs codes ready p h in
       let n : take j (drop at noncoherent) ≡ stream samples Noncoherent p
       = ap (λ (n : ℕ). take n (drop at noncoherent)) ej ∙ second-is samples symbols coherent noncoherent crcs codes ready p h in
-      e ∙ rw (r, c, n) (ap readOf (seen-there samples p s))
+      e ∙ rw (r, c, n) (ap survivorOf (seen-there samples p s))
 
   -- what clears the two messages is told
   pub lent-told : {c d : Found} {apart : Bool} → c ≡ foundOf (getD codes (numbered p) 0) → d ≡ foundOf (getD codes (256 + numbered p) 0)

@@ -31,11 +31,11 @@ use Rattle.search.specs.declared.Reading.{Reading}
 use Rattle.search.specs.declared.Tried.{Tried}
 use Rattle.search.specs.declared.Tried.the-variants as T
 use Rattle.search.specs.declared.Candidate.{Candidate}
-use Rattle.search.specs.declared.Read.{Read}
+use Rattle.search.specs.declared.Survivor.{Survivor}
 use Rattle.search.specs.Trials.{reading}
 use Rattle.search.specs.Choice.{candidate, dropped, survivor, candidateAt}
 use Rattle.search.specs.Kinds.{long}
-use Rattle.search.specs.Answers.{settingsNumber, readOf}
+use Rattle.search.specs.Answers.{settingsNumber, survivorOf}
 use Rattle.search.proofs.Passing.{sound}
 use Rattle.choice.specs.declared.filter.Filtered.{Filtered}
 use Rattle.choice.specs.declared.filter.Filtered.the-variants.{Is, Refused}
@@ -62,10 +62,10 @@ pub filter-never : (s : Settings) (n : ℕ) (c : Candidate) {k : ℕ} → settin
 unfolding filteredOf
 filter-never s n c z e = not-done (rw z at e)
 
-pub kept : (c : Candidate) {b : Bool} → b ≡ false → record { number = 0; candidate = c } ≡ readOf (cond b none (some c))
+pub kept : (c : Candidate) {b : Bool} → b ≡ false → record { number = 0; candidate = c } ≡ survivorOf (cond b none (some c))
 kept c e = rw e
 
-pub gone : (c : Candidate) {b : Bool} {r : Read} → b ≡ true → r ≡ readOf none → r ≡ readOf (cond b none (some c))
+pub gone : (c : Candidate) {b : Bool} {r : Survivor} → b ≡ true → r ≡ survivorOf none → r ≡ survivorOf (cond b none (some c))
 gone c e f = rw e f
 
 module _ (samples row : List Float) (coherent noncoherent : List ℕ) (p : Place) where
@@ -95,12 +95,12 @@ module _ (samples row : List Float) (coherent noncoherent : List ℕ) (p : Place
     lowest : min (s .level) 2 ≡ s .level
     lowest = omega arith
 
-    pub read-pass : {r : Reading} {a : Candidate} {x : Read} → read (s .level) ≡ T.Pass r → a ≡ candidate (seenAt samples row coherent noncoherent) p r
-        → x ≡ readOf (cond (dropped s (differing (messageAt coherent 14 (p .bit)) (messageAt noncoherent 14 (p .bit)) 112) a) none (some a))
-        → x ≡ readOf (candidateAt long s (seenAt samples row coherent noncoherent) p)
+    pub read-pass : {r : Reading} {a : Candidate} {x : Survivor} → read (s .level) ≡ T.Pass r → a ≡ candidate (seenAt samples row coherent noncoherent) p r
+        → x ≡ survivorOf (cond (dropped s (differing (messageAt coherent 14 (p .bit)) (messageAt noncoherent 14 (p .bit)) 112) a) none (some a))
+        → x ≡ survivorOf (candidateAt long s (seenAt samples row coherent noncoherent) p)
     unfolding candidateAt survivor long seenAt
     read-pass e ea ex = rw (lowest, e) (ex ∙ rw ea)
 
-    pub read-fail : {x : Read} → read (s .level) ≡ T.Fail → x ≡ readOf none → x ≡ readOf (candidateAt long s (seenAt samples row coherent noncoherent) p)
+    pub read-fail : {x : Survivor} → read (s .level) ≡ T.Fail → x ≡ survivorOf none → x ≡ survivorOf (candidateAt long s (seenAt samples row coherent noncoherent) p)
     unfolding candidateAt survivor long seenAt
     read-fail e ex = rw (lowest, e) ex

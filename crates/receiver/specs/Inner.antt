@@ -25,14 +25,12 @@ use Rattle.rolling.specs.Rolling.{crcsOf}
 use Rattle.hash.specs.Codes.{codesOf}
 use Rattle.cn0.specs.Estimate.{cn0Of}
 use Rattle.timing.specs.declared.Offset.{Offset}
-use Rattle.timing.specs.declared.Moves.{Moves}
-use Rattle.timing.specs.declared.Moves.the-variants.{Back, On}
 use Rattle.search.specs.declared.Tried.{Tried}
 use Rattle.search.specs.declared.Tried.the-variants.{Pass, Fail}
 use Rattle.search.specs.declared.Prompt.{Prompt}
-use Rattle.search.specs.declared.Timed.{Timed}
+use Rattle.search.specs.declared.Arrival.{Arrival}
 use Rattle.search.specs.Window.{Window}
-use Rattle.search.specs.Timed.{timingAt, indexOf}
+use Rattle.search.specs.When.{timingAt, indexOf}
 use Rattle.kernels.specs.Slices.{streamsOf}
 
 -- both streams of a slicer for each of the first k rows of symbols
@@ -82,14 +80,9 @@ seenAt samples row coherent noncoherent =
       cn0 = λ p message. cn0Of (powerOf 14 (symbolsFor 14 row p) message) (noiseOf 14 (samplesFor 14 samples p) message);
     }
 
--- how many samples are moved
-abbrev pub movesCount : Moves → ℕ
-movesCount (Back n) = n
-movesCount (On n) = n
-
 -- when a message came, from the symbols
-unfoldable pub timedIn : List Float → Place → List ℕ → ℕ → Timed
-timedIn symbols p message index =
+unfoldable pub arrivalIn : List Float → Place → List ℕ → ℕ → Arrival
+arrivalIn symbols p message index =
     let t = timingAt (seenIn symbols) message (sampleStart p) in
     record { number = 0; index = indexOf index (sampleStart p) (t .moves); fraction = t .fraction }
 

@@ -11,7 +11,7 @@ use cn0::estimate_cn0;
 use place::Place;
 use place::Slicer;
 use search::Candidate;
-use search::Read;
+use search::Survivor;
 use search::Reading;
 use search::Settings;
 use search::Tried;
@@ -27,14 +27,14 @@ ghost use Rattle.streams.specs.Streams.{messageAt};
 ghost use Rattle.streams.specs.Distances.{differing};
 ghost use Rattle.search.specs.Choice.{candidate, dropped, candidateAt};
 ghost use Rattle.search.specs.Kinds.{long};
-ghost use Rattle.search.specs.Answers.{settingsNumber, noCandidate, readOf};
+ghost use Rattle.search.specs.Answers.{settingsNumber, noCandidate, survivorOf};
 ghost use Rattle.receiver.specs.Inner.{Streams, Known, seenAt};
 
 // No reading, and the number that says why.
-pub fn unread(number: u32) -> Read
+pub fn unread(number: u32) -> Survivor
     ensures { λ r. ⌜ r ≡ record { number = number; candidate = noCandidate } ⌝ }
 {
-    Read {
+    Survivor {
         number,
         candidate: Candidate {
             place: Place {
@@ -53,8 +53,8 @@ pub fn unread(number: u32) -> Read
 }
 
 // Nothing is held.
-pub fn nothing() -> Read
-    ensures { λ r. ⌜ r ≡ readOf none ⌝ }
+pub fn nothing() -> Survivor
+    ensures { λ r. ⌜ r ≡ survivorOf none ⌝ }
 {
     unread(1)
 }
@@ -110,13 +110,13 @@ fn is_dropped(s: Settings, differing: u32, c: Candidate) -> bool
 }
 
 // The slicers' distance is asked for only where it can matter.
-fn survives(s: Settings, coherent: &[u8], noncoherent: &[u8], bit: usize, c: Candidate) -> Read
+fn survives(s: Settings, coherent: &[u8], noncoherent: &[u8], bit: usize, c: Candidate) -> Survivor
     requires { ⌜ Streams (now coherent) (now noncoherent) bit × (settingsNumber s ≡ 0) ⌝ }
-    ensures { λ r. ⌜ r ≡ readOf (cond (dropped s (differing (messageAt (now (coherent .entry)) 14 bit) (messageAt (now (noncoherent .entry)) 14 bit) 112) c) none (some c)) ⌝ }
+    ensures { λ r. ⌜ r ≡ survivorOf (cond (dropped s (differing (messageAt (now (coherent .entry)) 14 bit) (messageAt (now (noncoherent .entry)) 14 bit) 112) c) none (some c)) ⌝ }
 {
     let repairs = c.repairs;
     if repairs_of(repairs) != 2 {
-        return Read {
+        return Survivor {
             number: 0,
             candidate: c,
         };
@@ -124,7 +124,7 @@ fn survives(s: Settings, coherent: &[u8], noncoherent: &[u8], bit: usize, c: Can
     if is_dropped(s, distance_at(coherent, noncoherent, bit), c) {
         return nothing();
     }
-    Read {
+    Survivor {
         number: 0,
         candidate: c,
     }
@@ -141,9 +141,9 @@ pub fn read_streams<'a>(
     c: Found,
     d: Found,
     apart: bool,
-) -> Read
+) -> Survivor
     requires { ⌜ (length (now samples) ≡ 2310) × (length (now row) ≡ 576) × Streams (now coherent) (now noncoherent) (place .bit) × (within 14 place ≡ true) × (settingsNumber s ≡ 0) × Known (now coherent) (now noncoherent) (place .bit) c d apart ⌝ }
-    ensures { λ r. ⌜ r ≡ readOf (candidateAt long s (seenAt (now (samples .entry)) (now (row .entry)) (now (coherent .entry)) (now (noncoherent .entry))) place) ⌝ }
+    ensures { λ r. ⌜ r ≡ survivorOf (candidateAt long s (seenAt (now (samples .entry)) (now (row .entry)) (now (coherent .entry)) (now (noncoherent .entry))) place) ⌝ }
 {
     let bit = place.bit;
     let level = s.level;

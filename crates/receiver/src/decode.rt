@@ -13,9 +13,9 @@ use annex10::Repairs;
 use place::Place;
 use place::Slicer;
 use search::Answer;
-use search::Read;
+use search::Survivor;
 use search::Settings;
-use search::Timed;
+use search::Arrival;
 use timing::Moves;
 ghost use mathlib.Core.Path.{_≡_};
 ghost use mathlib.Core.Bool.{true};
@@ -23,9 +23,10 @@ ghost use Prim.Native.Nat.{_≤_, _^_};
 ghost use lib.ListN.{length};
 ghost use Rattle.place.specs.Step.{sampleStart};
 ghost use Rattle.place.specs.All.{listed};
-ghost use Rattle.search.specs.Timed.{indexOf};
-ghost use Rattle.search.specs.Answers.{refusedAnswer, readAt, bestOf, timedAt, decodeOf};
-ghost use Rattle.receiver.specs.Inner.{powerIn, timedIn, movesCount};
+ghost use Rattle.search.specs.When.{indexOf};
+ghost use Rattle.search.specs.Answers.{refusedAnswer, readAt, bestOf, arrivalAt, decodeOf};
+ghost use Rattle.timing.specs.Inner.{movesCount};
+ghost use Rattle.receiver.specs.Inner.{powerIn, arrivalIn};
 
 // Zeros, with a number.
 fn refused(number: u32) -> Answer
@@ -61,13 +62,13 @@ fn index_of(given: u64, place: Place, moves: Moves) -> u64
 }
 
 // When a message at one of the places that are searched came, with its power there.
-fn time_in(symbols: &[f32], place: Place, message: [u8; 14], power: f32, index: u64) -> Timed
+fn time_in(symbols: &[f32], place: Place, message: [u8; 14], power: f32, index: u64) -> Arrival
     requires { ⌜ (length (now symbols) ≡ 2304) × (listed 31 place ≡ true) × (128 ≤ index) × (index ≤ 2 ^ 63) × (power ≡ powerIn (now symbols) place message) ⌝ }
-    ensures { λ r. ⌜ r ≡ timedIn (now (symbols .entry)) place message index ⌝ }
+    ensures { λ r. ⌜ r ≡ arrivalIn (now (symbols .entry)) place message index ⌝ }
 {
     let t = subsample(symbols, place, message, power);
     let moves = t.moves;
-    Timed {
+    Arrival {
         number: 0,
         index: index_of(index, place, moves),
         fraction: t.fraction,
@@ -75,7 +76,7 @@ fn time_in(symbols: &[f32], place: Place, message: [u8; 14], power: f32, index: 
 }
 
 // The surviving reading of one of the 248 places. Refused: 2, 4, 5, 7; number 1 where there is none.
-pub fn read_place(samples: &[f32], s: Settings, place: Place) -> Read
+pub fn read_place(samples: &[f32], s: Settings, place: Place) -> Survivor
     ensures { λ r. ⌜ r ≡ readAt (now (samples .entry)) s place ⌝ }
 {
     let number = read_number(samples, s, place);
@@ -87,7 +88,7 @@ pub fn read_place(samples: &[f32], s: Settings, place: Place) -> Read
 }
 
 // The best reading of all 248 places. Refused: 2, 4, 5; number 1 where there is none.
-pub fn find_best_decode_candidate(samples: &[f32], s: Settings) -> Read
+pub fn find_best_decode_candidate(samples: &[f32], s: Settings) -> Survivor
     ensures { λ r. ⌜ r ≡ bestOf (now (samples .entry)) s ⌝ }
 {
     let number = best_number(samples, s);
@@ -99,12 +100,12 @@ pub fn find_best_decode_candidate(samples: &[f32], s: Settings) -> Read
 }
 
 // When a message at one of the 248 places came. Refused: 2, 6, 7.
-pub fn time_message(samples: &[f32], place: Place, message: [u8; 14], index: u64) -> Timed
-    ensures { λ r. ⌜ r ≡ timedAt (now (samples .entry)) place message index ⌝ }
+pub fn time_message(samples: &[f32], place: Place, message: [u8; 14], index: u64) -> Arrival
+    ensures { λ r. ⌜ r ≡ arrivalAt (now (samples .entry)) place message index ⌝ }
 {
     let number = time_number(samples, place, index);
     if number != 0 {
-        return Timed {
+        return Arrival {
             number,
             index: 0,
             fraction: 0.0,

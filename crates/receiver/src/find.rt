@@ -7,7 +7,7 @@ use crate::codes::says;
 use choice::best::choose;
 use place::Place;
 use place::Stepped;
-use search::Read;
+use search::Survivor;
 use search::Settings;
 ghost use mathlib.Core.Path.{_≡_};
 ghost use mathlib.Core.Bool.{true};
@@ -16,7 +16,7 @@ ghost use Rattle.place.specs.All.{listed, placeAt};
 ghost use Rattle.search.specs.Choice.{candidateAt, best};
 ghost use Rattle.search.specs.Kinds.{long};
 ghost use Rattle.search.specs.Seen.{windowOf};
-ghost use Rattle.search.specs.Answers.{settingsNumber, readOf};
+ghost use Rattle.search.specs.Answers.{settingsNumber, survivorOf};
 ghost use Rattle.receiver.specs.Inner.{Ready};
 
 // The surviving reading of a place: its row of symbols and its two streams are lent, and what clears its messages is told.
@@ -29,9 +29,9 @@ pub fn read_at<'a>(
     codes: &[u32],
     s: Settings,
     place: Place,
-) -> Read
+) -> Survivor
     requires { ⌜ Ready (now samples) (now symbols) (now coherent) (now noncoherent) (now crcs) (now codes) × (listed 31 place ≡ true) × (settingsNumber s ≡ 0) ⌝ }
-    ensures { λ r. ⌜ r ≡ readOf (candidateAt long s (windowOf 14 (now (samples .entry))) place) ⌝ }
+    ensures { λ r. ⌜ r ≡ survivorOf (candidateAt long s (windowOf 14 (now (samples .entry))) place) ⌝ }
 {
     let phase = place.phase;
     let symbol = place.symbol;
@@ -76,9 +76,9 @@ pub fn find<'a>(
     crcs: &[u32],
     codes: &[u32],
     s: Settings,
-) -> Read
+) -> Survivor
     requires { ⌜ Ready (now samples) (now symbols) (now coherent) (now noncoherent) (now crcs) (now codes) × (settingsNumber s ≡ 0) ⌝ }
-    ensures { λ r. ⌜ r ≡ readOf (best long s (windowOf 14 (now (samples .entry)))) ⌝ }
+    ensures { λ r. ⌜ r ≡ survivorOf (best long s (windowOf 14 (now (samples .entry)))) ⌝ }
 {
     let mut held = nothing();
     let mut k: usize = 0;

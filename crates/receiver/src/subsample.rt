@@ -13,7 +13,7 @@ ghost use Prim.Native.Nat.{_+_, _-_, _<_};
 ghost use lib.ListN.{length};
 ghost use Rattle.place.specs.Step.{sampleStart, startingAt, within};
 ghost use Rattle.place.specs.All.{listed};
-ghost use Rattle.search.specs.Timed.{over, promptOf, about, timingAt};
+ghost use Rattle.search.specs.When.{over, promptOf, about, timingAt};
 ghost use Rattle.timing.specs.Subsample.{fractionOf, timingOf};
 ghost use Rattle.receiver.specs.Inner.{powerIn, looked, seenIn};
 

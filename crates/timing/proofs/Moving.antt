@@ -14,7 +14,8 @@ use lib.Ieee.{Float, nan, inf, fin, binary32, up, down, fits, add, sub, lt, le, 
 use lib.Ieee.Fits.{down-pos}
 use lib.Ieee.Exact.{HasValue}
 use Rattle.floats.proofs.Integers.{sub-ge, sub-lt, neg-pos}
-use Rattle.timing.specs.Subsample.{one, halves, inRange, move, turn, rest, moved}
+use Rattle.timing.specs.Subsample.{one, halves, move, turn, afterMoves, gained}
+use Rattle.timing.specs.Inner.{inRange}
 use Rattle.timing.specs.Exact.{Is, LessBy}
 use Rattle.timing.proofs.Exactly.{Up, Down, up-exact, down-exact}
 use Rattle.timing.proofs.Turning.{Span, InRange, which, span-up, span-down, move-up, move-down, move-rest, turn-up, turn-down, turn-rest, below-half, above-half, minus-no, plus-no}
@@ -234,13 +235,13 @@ module _ (c : ℕ) (C : 0 < c) where
     ]
   ]
 
-  two-turns : (x : Float) (n : ℤ) → Span x → Is x n c → Is (rest x) (n -ℤ moved x *ℤ pos c) c
-  unfolding rest moved
+  two-turns : (x : Float) (n : ℤ) → Span x → Is x n c → Is (afterMoves x) (n -ℤ gained x *ℤ pos c) c
+  unfolding afterMoves gained
   two-turns x n s i =
       let (t, j) = one-turn x n s i in
       subst (λ (z : ℤ). Is (move (move x)) z c) (together n (turn x) (turn (move x)) (pos c)) (one-turn (move x) (n -ℤ turn x *ℤ pos c) t j .1)
 
-exact : (f : Float) → Span f → LessBy (moved f) f (rest f)
+exact : (f : Float) → Span f → LessBy (gained f) f (afterMoves f)
 exact nan s = unfold le in absurd (false≢true (s .lo))
 exact (inf true) s = unfold le in absurd (false≢true (s .lo))
 exact (inf false) s = unfold le in absurd (false≢true (s .hi))
@@ -254,9 +255,9 @@ exact (fin s m e) h =
       after = two-turns (down e) (down-pos e) (fin s m e) (signed s (m * up e)) h i;
     }
 
-pub moves-exact : (f : Float) → T (fits binary32 f) → inRange f ≡ true → isNan f ≡ false → LessBy (moved f) f (rest f)
+pub moves-exact : (f : Float) → T (fits binary32 f) → inRange f ≡ true → isNan f ≡ false → LessBy (gained f) f (afterMoves f)
 moves-exact f t e n = go (range-gives f t e)
   where
-    go : InRange f → LessBy (moved f) f (rest f)
+    go : InRange f → LessBy (gained f) f (afterMoves f)
     go (inl h) = absurd (true≢false (sym (ap isNan h ∙ unfold isNan in refl) ∙ n))
     go (inr s) = exact f s

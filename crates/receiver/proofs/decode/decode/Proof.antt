@@ -5,7 +5,7 @@ use lib.Ieee.{Float}
 use mathlib.Core.Path.{sym, ap, _∙_}
 use lib.ListN.{length}
 use Rattle.kernels.proofs.Summing.{symbols-length}
-use Rattle.receiver.specs.Inner.{powerIn, timedIn}
+use Rattle.receiver.specs.Inner.{powerIn, arrivalIn}
 use Rattle.receiver.proofs.Deciding.{decode-taken, read-some, read-none, best-listed, best-power, decode-refused, decode-none, decode-done}
 use borrow.Author.Needs.{needs}
 use Rattle.receiver.proofs.decode.decode.Statement.{statement}
@@ -58,7 +58,7 @@ returns-3 c =
     let b = c .before .before .before .before .before .before .before .best-of in
     let f = b .result .candidate in
     decode-done (a .samples .now) (a .s) (a .index) f (c .before .before .before .before .before .before .before .before .before .before .before .decode-number .ensures) (c .before .before .before .before .before .before .before .before .before .before .if1 .left) (read-some _ (b .ensures) (c .before .before .before .before .before .if2 .left))
-    (c .time-in .ensures ∙ ap (λ (x : List Float). timedIn x (f .place) (f .message) (a .index)) (c .before .before .before .before .before .before .before .before .before .symbols-of .ensures))
+    (c .time-in .ensures ∙ ap (λ (x : List Float). arrivalIn x (f .place) (f .message) (a .index)) (c .before .before .before .before .before .before .before .before .before .symbols-of .ensures))
 
 pub decode-spec : {M : Type 1} → statement M
 decode-spec =

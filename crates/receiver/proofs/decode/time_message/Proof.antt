@@ -3,7 +3,7 @@
 use mathlib.Core.Path.{ap, _∙_}
 use lib.ListN.{length}
 use Rattle.kernels.proofs.Summing.{symbols-length}
-use Rattle.receiver.specs.Inner.{timedIn}
+use Rattle.receiver.specs.Inner.{arrivalIn}
 use Rattle.receiver.proofs.Deciding.{time-taken, time-refused, time-done}
 use Rattle.receiver.proofs.Prompting.{room}
 use borrow.Author.Needs.{needs}
@@ -41,7 +41,7 @@ returns-2 : tie.Need-returns-2
 returns-2 c =
     let a = c .before .before .before .before .before .before .before .before .args in
     time-done (a .samples .now) (a .place) (a .message) (a .index) (c .before .before .before .before .before .before .time-number .ensures) (c .before .before .before .before .before .if1 .left)
-    (c .time-in .ensures ∙ ap (λ x. timedIn x (a .place) (a .message) (a .index)) (c .before .before .before .before .symbols-of .ensures))
+    (c .time-in .ensures ∙ ap (λ x. arrivalIn x (a .place) (a .message) (a .index)) (c .before .before .before .before .symbols-of .ensures))
 
 pub time-message-spec : {M : Type 1} → statement M
 time-message-spec =

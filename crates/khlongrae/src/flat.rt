@@ -1,8 +1,8 @@
 // An answer as rows of numbers.
 use annex10::Repairs;
+use choice::best::repairs_of;
 use place::Slicer;
 use search::Answer;
-use choice::best::repairs_of;
 ghost use mathlib.Core.Path.{_≡_};
 ghost use Rattle.khlongrae.specs.Flat.{firstOf, secondOf, slicerCode, wordsOf, numbersOf};
 

@@ -1,4 +1,5 @@
 -- `khlongrae::header::khlongrae_header` meets its contract, exit by exit. Assumes nothing.
+use native.Mathlib.Omega.{arith}
 use Rattle.khlongrae.proofs.Heads.{count-refused, none-checked, first-refused, one-checked, second-refused, two-checked}
 use borrow.Author.Needs.{needs}
 use Rattle.khlongrae.proofs.header.khlongrae_header.Statement.{statement}
@@ -8,7 +9,7 @@ refused-requires : tie.Need-refused-requires
 refused-requires c κs = search needs
 
 returns : tie.Need-returns
-returns c = count-refused _ _ _ _ (c .before .if1 .taken) (c .refused .ensures)
+returns c = count-refused _ _ _ _ (omega (arith, c .before .if1 .taken)) (c .refused .ensures)
 
 check-requires : tie.Need-check-requires
 check-requires c κs = search needs
@@ -22,7 +23,7 @@ refused-requires-2 c κs = search needs
 returns-3 : tie.Need-returns-3
 returns-3 c =
     let t = c .before in
-    first-refused _ _ _ _ (t .before .before .if1 .left) (t .before .if2 .left) (t .if3 .taken) (c .refused2 .ensures)
+    first-refused _ _ _ _ (omega (arith, t .before .before .if1 .left)) (t .before .if2 .left) (t .if3 .taken) (c .refused2 .ensures)
 
 cast-t7 : tie.Need-cast-t7
 cast-t7 c = search needs
@@ -39,7 +40,7 @@ refused-requires-3 c κs = search needs
 returns-5 : tie.Need-returns-5
 returns-5 c =
     let t = c .before in
-    second-refused _ _ _ _ (t .before .before .before .before .if1 .left) (t .before .before .before .if2 .left) (t .before .if4 .left) (t .if5 .taken) (c .refused3 .ensures)
+    second-refused _ _ _ _ (omega (arith, t .before .before .before .before .if1 .left)) (t .before .before .before .if2 .left) (t .before .if4 .left) (t .if5 .taken) (c .refused3 .ensures)
 
 cast-t9 : tie.Need-cast-t9
 cast-t9 c = search needs
@@ -53,7 +54,7 @@ check-requires-3 c κs = search needs
 returns-6 : tie.Need-returns-6
 returns-6 c =
     let t = c .before in
-    two-checked _ _ _ _ (t .before .before .before .before .if1 .left) (t .before .before .before .if2 .left) (t .before .if4 .left) (c .check3 .ensures)
+    two-checked _ _ _ _ (omega (arith, t .before .before .before .before .if1 .left)) (t .before .before .before .if2 .left) (t .before .if4 .left) (c .check3 .ensures)
 
 pub khlongrae-header-spec : {M : Type 1} → statement M
 khlongrae-header-spec =

@@ -1,5 +1,6 @@
 -- `khlongrae::written::write` meets its contract: a number other than 0 leaves the memory, number 0 fills it. Assumes nothing.
 use mathlib.Core.Path.{_∙_}
+use native.Mathlib.Omega.{arith}
 use borrow.Author.Tests.{ne-eqb}
 use Rattle.khlongrae.specs.Flat.{written}
 use Rattle.khlongrae.proofs.Into.{written-all}
@@ -9,7 +10,7 @@ use Rattle.khlongrae.proofs.written.write.Tie as tie
 
 returns : tie.Need-returns
 unfolding written
-returns c = simp (ne-eqb _ _ (c .if1 .taken))
+returns c = simp (ne-eqb (c .before .before .before .before .args .a .number) 0 (λ e. omega arith))
 
 put-bytes-requires : tie.Need-put-bytes-requires
 put-bytes-requires c κs = search needs
@@ -39,7 +40,7 @@ returns-2 : tie.Need-returns-2
 returns-2 c =
     let words = c .before .before .before .before .before .before .before in
     let bytes = words .before .before .before .before .before in
-    written-all _ _ _ _ (bytes .before .before .before .if1 .left) (bytes .put-bytes .ensures) (words .put-words .ensures ∙ words .before .before .words-of .ensures) (c .before .before .put-numbers .ensures ∙ c .before .before .before .before .numbers-of .ensures)
+    written-all _ _ _ _ (omega (arith, bytes .before .before .before .if1 .left)) (bytes .put-bytes .ensures) (words .put-words .ensures ∙ words .before .before .words-of .ensures) (c .before .before .put-numbers .ensures ∙ c .before .before .before .before .numbers-of .ensures)
 
 pub write-spec : {M : Type 1} → statement M
 write-spec =

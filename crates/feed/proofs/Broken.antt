@@ -1,9 +1,9 @@
 -- What is printed of an input that cannot be read to its end, beside what is printed where it ends there.
 -- Assumes nothing.
-use mathlib.Core.Path.{_≡_, refl, sym, ap, _∙_}
+use mathlib.Core.Path.{refl, sym, ap, _∙_}
 use mathlib.Core.Bool.{Bool, true, false, cond}
 use mathlib.Core.List.{List, [], _∷_, _++_, append-assoc}
-use mathlib.Core.Logic.{_⊎_, inl, inr}
+use mathlib.Core.Logic.{inl, inr}
 use Prim.Native.Nat.{ℕ, zero, suc, _*_}
 use lib.Dec.{eqb, leb}
 use lib.Ieee.{binary32, ofBits}
@@ -14,13 +14,13 @@ use Rattle.search.specs.declared.Settings.{Settings}
 use Rattle.search.specs.Answers.{indexNumber, decodeOf}
 use Rattle.words.specs.Words.{littleEndian, floatAt}
 use Rattle.listing.specs.Lines.{headLine, refusedLine, windowLine}
-use Rattle.feed.specs.Parts.{Stop, end, failure, next, nextNumber, need}
+use Rattle.feed.specs.Parts.{end, failure, nextBytes, nextNumber, need}
 use Rattle.feed.specs.Listing.{ending, windowLines, samplesListing, indicesListing, listing}
 use Rattle.feed.specs.Statement.{Refused}
 
 alike : (n : ℕ) (input : List ℕ) (h k : List ℕ → List ℕ → List ℕ) → ((part rest : List ℕ) → Refused (h part rest) (k part rest))
-    → Refused (next n input h) (next n input k)
-unfolding next
+    → Refused (nextBytes n input h) (nextBytes n input k)
+unfolding nextBytes
 alike n input h k p = go (leb n (length input)) where
   go : (b : Bool)
       → Refused (cond b (h (take n input) (drop n input)) (refusedLine 10)) (cond b (k (take n input) (drop n input)) (refusedLine 10))

@@ -4,7 +4,6 @@ use mathlib.Core.Path.{refl}
 use lib.ListN.{replicate}
 use Rattle.feed.specs.Machine.{startOf}
 use Rattle.feed.specs.Statement.{Lists}
-use Rattle.feed.proofs.Printing.{Prints}
 use Rattle.feed.proofs.Numbers.{prints-all}
 use Rattle.feed.proofs.Answers.{answers}
 use Rattle.feed.proofs.Broken.{broken}

@@ -4,8 +4,9 @@ use mathlib.Core.Path.{refl}
 use lib.ListN.{replicate}
 use Rattle.feed.specs.Machine.{startOf}
 use Rattle.feed.specs.Statement.{Lists}
-use Rattle.feed.proofs.Printing.{Prints}
 use Rattle.feed.proofs.Numbers.{prints-all}
+use Rattle.feed.proofs.Answers.{answers}
+use Rattle.feed.proofs.Broken.{broken}
 use Rattle.feed.proofs.Left.{nearer, nearer-failed, failed-is, over}
 
 pub lists : Lists
@@ -15,6 +16,8 @@ lists =
       prints = prints-all (replicate 64 0) refl _ .so;
       nearer = nearer;
       nearer-failed = nearer-failed;
+      broken = broken;
       fails = failed-is;
       over = over;
+      answers = answers;
     }

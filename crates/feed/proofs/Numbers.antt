@@ -28,7 +28,7 @@ use Rattle.feed.specs.declared.Stage.the-variants.{Number, Index}
 use Rattle.feed.specs.declared.State.{State}
 use Rattle.feed.specs.Parts.{Stop, nextNumber, need}
 use Rattle.feed.specs.Listing.{indicesListing, listing}
-use Rattle.feed.specs.Machine.{wantedOf, provided, indexStage, numberFed, indexFed, fedOf}
+use Rattle.feed.specs.Machine.{wantedOf, provided, indexStage, indexFed, fedOf}
 use Rattle.feed.proofs.Printing.{Prints, After, longer, after-says, after-provided, prints-part, prints-number}
 use Rattle.feed.proofs.Windows.{prints-samples}
 

@@ -19,7 +19,7 @@ use Rattle.feed.specs.declared.Field.{Field}
 use Rattle.feed.specs.declared.Stage.the-variants.{Number, Over}
 use Rattle.feed.specs.declared.State.{State}
 use Rattle.feed.specs.declared.Fed.{Fed}
-use Rattle.feed.specs.Parts.{Stop, end, failure, next, nextNumber, need}
+use Rattle.feed.specs.Parts.{Stop, end, failure, nextBytes, nextNumber, need}
 use Rattle.feed.specs.Machine.{wantedOf, blank, says, refuses, provided, sized, numberFed, fedOf, failedOf}
 use Rattle.feed.specs.Run.{shown, shortFed, readFed, printed}
 
@@ -93,18 +93,18 @@ module _
     short failure input less = rw (wants, wanted-some)
 
     step : (steps : ℕ) (stop : Stop) (input : List ℕ) (b : Bool) → leb w (length input) ≡ b → n ≤ steps
-        → printed (suc steps) stop s input ≡ next w input (h stop)
-    unfolding printed readFed next
+        → printed (suc steps) stop s input ≡ nextBytes w input (h stop)
+    unfolding printed readFed nextBytes
     step steps stop input true e l = simp (wants, wanted-some, e) (whole steps stop input l (leb-true _ _ e))
     step steps stop input false e l =
         simp (wants, wanted-some, e, short stop input (leb-false _ _ e))
         (after-refuses n 10 .so steps stop (drop w input) l)
 
-    all : (steps : ℕ) (stop : Stop) (input : List ℕ) → suc n ≤ steps → printed steps stop s input ≡ next w input (h stop)
+    all : (steps : ℕ) (stop : Stop) (input : List ℕ) → suc n ≤ steps → printed steps stop s input ≡ nextBytes w input (h stop)
     all zero stop input l = absurd (not-suc-le-zero l)
     all (suc steps) stop input l = step steps stop input (leb w (length input)) refl (le-of-suc-le-suc l)
 
-    pub prints-part : Prints (suc n) s (λ stop input. next w input (h stop))
+    pub prints-part : Prints (suc n) s (λ stop input. nextBytes w input (h stop))
     prints-part = record { so = all }
 
 -- a state that wants a number of 32 bits

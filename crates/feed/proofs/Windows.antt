@@ -1,91 +1,75 @@
 -- What is printed from the sample count on: the first line, the windows' lines, the end.
 -- Assumes nothing.
-use mathlib.Core.Path.{_≡_, refl, sym, ap, _∙_}
-use mathlib.Core.Bool.{true, false}
+use mathlib.Core.Path.{_≡_, refl}
 use mathlib.Core.List.{List, [], _∷_, _++_}
 use Prim.Native.Nat.{ℕ, zero, suc, _+_, _*_, _≤_, _<_, zero-le}
 use native.Mathlib.Nat.{zero-add, not-suc-le-zero}
 use native.Mathlib.Numerals.{add-one}
 use native.Mathlib.Omega.{arith}
 use borrow.Author.Tests.{lt-ltb, le-ltb, le-leb}
-use lib.Dec.{eqb, ltb}
-use lib.Ieee.{Float}
+use lib.Dec.{eqb}
 use lib.ListN.{length, getD, take, drop}
 use lib.Seq.{drop-cons, length-take-le}
 use Rattle.lists.specs.From.{tabulate}
 use Rattle.search.specs.declared.Settings.{Settings}
 use Rattle.search.specs.Answers.{decodeOf}
-use Rattle.words.specs.Words.{littleEndian, floatAt}
+use Rattle.words.specs.Words.{floatAt}
 use Rattle.listing.specs.Lines.{headLine, windowLine}
 use Rattle.feed.specs.declared.Field.the-variants.{SampleCount}
-use Rattle.feed.specs.declared.Stage.the-variants.{Number, Samples, End, Over}
+use Rattle.feed.specs.declared.Stage.the-variants.{Number, Samples, End}
 use Rattle.feed.specs.declared.State.{State}
-use Rattle.feed.specs.Parts.{Stop, end, failure, next, nextNumber, need}
+use Rattle.feed.specs.Parts.{Stop, end, failure, nextBytes, need}
 use Rattle.feed.specs.Listing.{ending, windowLines, samplesListing}
-use Rattle.feed.specs.Machine.{
-  wantedOf,
-  blank,
-  says,
-  refuses,
-  provided,
-  sized,
-  counted,
-  samplesStage,
-  numberFed,
-  samplesLine,
-  samplesFed,
-  fedOf,
-  failedOf,
-}
-use Rattle.feed.specs.Run.{shown, readFed, printed}
+use Rattle.feed.specs.Machine.{wantedOf, provided, sized, samplesStage, samplesLine, samplesFed, fedOf, failedOf}
+use Rattle.feed.specs.Run.{readFed, printed}
 use Rattle.feed.proofs.Printing.{Prints, After, prints-over, after-says, after-refuses, after-provided, prints-part, prints-number}
 
 -- k of w windows came
-abbrev rows : Settings → ℕ → ℕ → List ℕ → State
-rows t w k xs = record { stage = samplesStage k w; settings = t; windows = w; done = k; indices = xs }
+abbrev came : Settings → ℕ → ℕ → List ℕ → State
+came t w k xs = record { stage = samplesStage k w; settings = t; windows = w; done = k; indices = xs }
 
--- the same, where the stage is told
-abbrev listing : Settings → ℕ → ℕ → List ℕ → State
-listing t w k xs = record { stage = Samples; settings = t; windows = w; done = k; indices = xs }
+-- the k-th of w windows is wanted, and all w came
+abbrev wanting : Settings → ℕ → ℕ → List ℕ → State
+wanting t w k xs = record { stage = Samples; settings = t; windows = w; done = k; indices = xs }
 
-abbrev listed : Settings → ℕ → ℕ → List ℕ → State
-listed t w k xs = record { stage = End; settings = t; windows = w; done = k; indices = xs }
+abbrev ended : Settings → ℕ → ℕ → List ℕ → State
+ended t w k xs = record { stage = End; settings = t; windows = w; done = k; indices = xs }
 
 module _ (t : Settings) where
   -- the end of the input: one byte more is wanted, and none may come
   at-end : (w k : ℕ) (xs : List ℕ) (steps : ℕ) (stop : Stop) (input : List ℕ)
-      → printed (suc steps) stop (listed t w k xs) input ≡ ending stop input
+      → printed (suc steps) stop (ended t w k xs) input ≡ ending stop input
   unfolding printed readFed wantedOf fedOf failedOf sized provided ending
   at-end w k xs steps end [] = after-says [] (prints-over 0) .so steps end [] zero-le
   at-end w k xs steps failure [] = after-refuses 0 10 .so steps failure [] zero-le
   at-end w k xs steps stop (b ∷ bs) =
       simp (le-leb 1 (suc (length bs)) (omega arith)) (after-refuses 0 10 .so steps stop bs zero-le)
 
-  prints-end : (w k : ℕ) (xs : List ℕ) → Prints 1 (listed t w k xs) (λ stop input. ending stop input)
+  prints-end : (w k : ℕ) (xs : List ℕ) → Prints 1 (ended t w k xs) (λ stop input. ending stop input)
   prints-end w k xs = record { so = ends } where
-    ends : (steps : ℕ) (stop : Stop) (input : List ℕ) → 1 ≤ steps → printed steps stop (listed t w k xs) input ≡ ending stop input
+    ends : (steps : ℕ) (stop : Stop) (input : List ℕ) → 1 ≤ steps → printed steps stop (ended t w k xs) input ≡ ending stop input
     ends zero stop input l = absurd (not-suc-le-zero l)
     ends (suc steps) stop input l = at-end w k xs steps stop input
 
   -- one window, then those behind it
-  prints-row : (n w k : ℕ) (xs : List ℕ) (f : Stop → List ℕ → List ℕ) → k < 64 → Prints n (rows t w (k + 1) xs) f
-      → Prints (suc n) (listing t w k xs)
+  prints-row : (n w k : ℕ) (xs : List ℕ) (f : Stop → List ℕ → List ℕ) → k < 64 → Prints n (came t w (k + 1) xs) f
+      → Prints (suc n) (wanting t w k xs)
       (λ stop input.
-      next 9240 input (λ part rest. windowLine k (decodeOf (tabulate 2310 (floatAt part)) t (getD xs k 0)) ++ f stop rest))
+      nextBytes 9240 input (λ part rest. windowLine k (decodeOf (tabulate 2310 (floatAt part)) t (getD xs k 0)) ++ f stop rest))
   unfolding wantedOf fedOf samplesFed samplesLine provided
   prints-row n w k xs f h p =
-      prints-part n 9240 (listing t w k xs) (samplesFed (listing t w k xs))
+      prints-part n 9240 (wanting t w k xs) (samplesFed (wanting t w k xs))
       (λ stop part rest. windowLine k (decodeOf (tabulate 2310 (floatAt part)) t (getD xs k 0)) ++ f stop rest)
       refl (omega arith) (λ part. refl)
       (λ part e. taken part)
     where
-      taken : (part : List ℕ) → After n (samplesFed (listing t w k xs) part)
+      taken : (part : List ℕ) → After n (samplesFed (wanting t w k xs) part)
           (λ stop rest. windowLine k (decodeOf (tabulate 2310 (floatAt part)) t (getD xs k 0)) ++ f stop rest)
       taken part = simp (lt-ltb k 64 h) (after-says (windowLine k (decodeOf (tabulate 2310 (floatAt part)) t (getD xs k 0))) p)
 
   -- m windows from the k-th on
   pub prints-rows : (m w k : ℕ) (xs : List ℕ) → k + m ≡ w → w ≤ 64 → length xs ≡ 64
-      → Prints (suc m) (rows t w k xs) (λ stop input. windowLines stop t k (take m (drop k xs)) input)
+      → Prints (suc m) (came t w k xs) (λ stop input. windowLines stop t k (take m (drop k xs)) input)
   unfolding windowLines samplesStage
   prints-rows zero w k xs e l size = simp (le-ltb k w (omega arith)) (prints-end w k xs)
   prints-rows (suc m) w k xs e l size =

@@ -11,7 +11,7 @@ use Rattle.search.specs.declared.Settings.{Settings}
 use Rattle.search.specs.Answers.{indexNumber, decodeOf}
 use Rattle.words.specs.Words.{floatAt}
 use Rattle.listing.specs.Lines.{headLine, refusedLine, windowLine}
-use Rattle.feed.specs.Parts.{Stop, end, failure, next, nextNumber, need}
+use Rattle.feed.specs.Parts.{Stop, end, failure, nextBytes, nextNumber, need}
 
 -- behind the last window comes the end: a byte too many is refused, and so is a read that fails
 unfoldable pub ending : Stop → List ℕ → List ℕ
@@ -23,7 +23,7 @@ ending stop (b ∷ bs) = refusedLine 10
 unfoldable pub windowLines : Stop → Settings → ℕ → List ℕ → List ℕ → List ℕ
 windowLines stop s k [] input = ending stop input
 windowLines stop s k (index ∷ indices) input =
-    next 9240 input (λ part rest.
+    nextBytes 9240 input (λ part rest.
     windowLine k (decodeOf (tabulate 2310 (floatAt part)) s index) ++ windowLines stop s (suc k) indices rest)
 
 -- the sample count is 2,310 for each index; then the first line

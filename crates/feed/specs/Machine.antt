@@ -2,9 +2,9 @@
 -- Assumes nothing.
 use mathlib.Core.Bool.{Bool, cond}
 use mathlib.Core.List.{List, []}
-use Prim.Native.Nat.{ℕ, _+_, _-_, _*_}
+use Prim.Native.Nat.{ℕ, _+_, _*_}
 use lib.Dec.{eqb, leb, ltb}
-use lib.Ieee.{Float, binary32, ofBits}
+use lib.Ieee.{binary32, ofBits}
 use lib.Ieee.Scale.{finite}
 use lib.ListN.{length, getD, set, replicate}
 use Rattle.lists.specs.From.{tabulate}

@@ -14,12 +14,12 @@ pub data Stop : Type 0 where
   failure : Stop
 
 -- what is printed for the next n bytes and the rest of the input; where there are fewer, it is malformed
-unfoldable pub next : ℕ → List ℕ → (List ℕ → List ℕ → List ℕ) → List ℕ
-next n input print = cond (leb n (length input)) (print (take n input) (drop n input)) (refusedLine 10)
+unfoldable pub nextBytes : ℕ → List ℕ → (List ℕ → List ℕ → List ℕ) → List ℕ
+nextBytes n input print = cond (leb n (length input)) (print (take n input) (drop n input)) (refusedLine 10)
 
 -- the same for the number that the next n bytes write
 unfoldable pub nextNumber : ℕ → List ℕ → (ℕ → List ℕ → List ℕ) → List ℕ
-nextNumber n input print = next n input (λ part rest. print (littleEndian part) rest)
+nextNumber n input print = nextBytes n input (λ part rest. print (littleEndian part) rest)
 
 -- what is printed where a test holds; where it does not, it is the refusal
 unfoldable pub need : Bool → ℕ → List ℕ → List ℕ

@@ -71,11 +71,11 @@ pub record PartTaken (part : List ℕ) (bit : ℕ) : Type 0 where
   pub size : length part ≡ partSize 14 bit
   pub low : bit ≤ 32
 
-tested : (part : List ℕ) (bit : ℕ) (t u : Bool) → eqb (length part) (partSize 14 bit) ≡ t → leb bit 32 ≡ u → _≡_ {A = ℕ} (cond t (cond u 0 7) 2) 0
+tested : (part : List ℕ) (bit : ℕ) (t u : Bool) → eqb (length part) (partSize 14 bit) ≡ t → leb bit 32 ≡ u → _≡_ {A = ℕ} (cond u (cond t 0 2) 7) 0
     → PartTaken part bit
 tested part bit true true a b e = record { size = eqb-true _ _ a; low = leb-true _ _ b }
-tested part bit true false a b e = absurd (omega arith)
-tested part bit false u a b e = absurd (omega arith)
+tested part bit false true a b e = absurd (omega arith)
+tested part bit t false a b e = absurd (omega arith)
 
 pub part-opened : (part : List ℕ) (bit : ℕ) {n : ℕ} → n ≡ partNumber part bit → n ≡ 0 → PartTaken part bit
 unfolding partNumber

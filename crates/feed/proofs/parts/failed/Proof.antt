@@ -1,6 +1,6 @@
 -- `feed::parts::failed` meets its contract.
 -- Assumes nothing.
-use mathlib.Core.Path.{sym, _∙_}
+use mathlib.Core.Path.{sym}
 use borrow.Author.Tests.{eq-eqb, ne-eqb}
 use Rattle.feed.specs.Machine.{failedOf}
 use borrow.Author.Needs.{needs}

@@ -40,7 +40,8 @@ use Rattle.timing.proofs.Laws.{few-moves}
 use Rattle.search.specs.declared.Settings.{Settings}
 use Rattle.search.specs.declared.Candidate.{Candidate}
 use Rattle.search.specs.declared.Reading.{Reading}
-use Rattle.search.specs.Choice.{Window, _∈_, candidate, candidateAt, best}
+use Rattle.search.specs.Window.{Window, _∈_}
+use Rattle.search.specs.Choice.{candidate, candidateAt, best}
 use Rattle.search.specs.Kinds.{long}
 use Rattle.search.specs.Seen.{stream, bitsAt, windowOf}
 use Rattle.search.specs.When.{timingAt, moved, indexOf}

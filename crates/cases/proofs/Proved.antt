@@ -13,11 +13,11 @@ use lib.Ieee.{size, span, climb, add, sub, mul, div, neg, eq, ofBits, lt, le}
 use Rattle.math.specs.Parabola.{parabola}
 use Rattle.cn0.specs.Logarithm.{floorLog, significand, digits, logSteps}
 use Rattle.place.specs.Step.{within, startingAt, earlierOf, laterOf}
-use Rattle.timing.specs.Subsample.{held, fractionOf, move, turn, rest, moved, timingOf}
+use Rattle.timing.specs.Subsample.{held, fractionOf, move, turn, afterMoves, gained, timingOf}
 use Rattle.cases.specs.Table.{All, cases}
 
 pub hold : All cases
-unfolding remainder flip repaired pattern oneOf longHeader logSteps floorLog significand digits size span climb parabola add sub mul div neg eq ofBits earlierOf laterOf within startingAt timingOf fractionOf held move turn rest moved lt le
+unfolding remainder flip repaired pattern oneOf longHeader logSteps floorLog significand digits size span climb parabola add sub mul div neg eq ofBits earlierOf laterOf within startingAt timingOf fractionOf held move turn afterMoves gained lt le
 hold = (
   refl,
   (

@@ -1,11 +1,11 @@
 // Which of two candidates is the better.
 use annex10::Repairs;
 use search::Candidate;
-use search::Read;
+use search::Survivor;
 ghost use mathlib.Core.Path.{_≡_};
 ghost use Rattle.annex10.specs.Repair.{count};
 ghost use Rattle.search.specs.Choice.{beats};
-ghost use Rattle.choice.specs.Chosen.{chosenRead};
+ghost use Rattle.choice.specs.Chosen.{chosenSurvivor};
 
 // How many positions are repaired.
 pub fn repairs_of(repairs: Repairs) -> u32
@@ -36,8 +36,8 @@ pub fn displaces(new: Candidate, held: Candidate) -> bool
 }
 
 // The better of what is held and a newcomer, each of which is a candidate where its number is 0, and nothing else.
-pub fn choose(held: Read, new: Read) -> Read
-    ensures { λ r. ⌜ r ≡ chosenRead held new ⌝ }
+pub fn choose(held: Survivor, new: Survivor) -> Survivor
+    ensures { λ r. ⌜ r ≡ chosenSurvivor held new ⌝ }
 {
     if new.number != 0 {
         return held;

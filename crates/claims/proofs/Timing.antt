@@ -1,54 +1,60 @@
--- The time of an answer: at most two samples move, and a fraction that is a number ends in [-0.5, 0.5).
+-- The time of an answer: the index gains what the fraction loses, at most two samples, and a fraction that is a number ends in [-0.5, 0.5).
 -- Assumes nothing.
 use mathlib.Core.Path.{_≡_, refl, sym, ap, _∙_, subst}
-use mathlib.Core.Bool.{Bool, true, false, true≢false}
 use mathlib.Core.List.{List}
-use Prim.Native.Nat.{ℕ, _≤_}
+use Prim.Native.Nat.{ℕ, suc, _+_, _-_, _*_, _≤_}
+use native.Mathlib.Omega.{arith}
 use lib.Dec.{T}
-use lib.Ieee.{Float, nan, binary32, fits, lt, le, isNan}
+use lib.IntN.{ℤ, pos, negsuc, natAbs, _+ℤ_}
+use lib.Ieee.{Float, binary32, fits, isNan}
 use lib.Ieee.Fits.{sub-fits}
+use Rattle.floats.proofs.Integers.{sub-ge}
 use Rattle.floats.proofs.Nan.{nan-is}
+use Rattle.place.specs.declared.Place.{Place}
+use Rattle.place.specs.Step.{sampleStart}
 use Rattle.timing.specs.declared.Offset.{Offset}
-use Rattle.timing.specs.declared.Moves.{Moves}
-use Rattle.timing.specs.declared.Moves.the-variants.{Back, On}
-use Rattle.timing.specs.Subsample.{halves, fractionOf, rest, timingOf}
-use Rattle.timing.proofs.Laws.{reaches, ends-in-range, nan-stays, few-moves}
-use Rattle.timing.proofs.Laws as laws
-use Rattle.search.specs.Window.{Window}
-use Rattle.search.specs.Timed.{promptOf, about, timingAt}
-use Rattle.claims.specs.Audited.{countOf}
-
--- [-0.5, 0.5)
-abbrev pub Inside : Float → Type 0
-Inside f = (le (halves true 1) f ≡ true) × (lt f (halves false 1) ≡ true)
+use Rattle.timing.specs.Subsample.{fractionOf, afterMoves, gained, movesOf, timingOf}
+use Rattle.timing.specs.Exact.{LessBy}
+use Rattle.timing.proofs.Reach.{fraction-reaches}
+use Rattle.timing.proofs.Laws.{reaches, ends-in-range, nan-stays, at-most-two}
+use Rattle.timing.proofs.Moving.{moves-exact}
+use Rattle.search.specs.declared.Candidate.{Candidate}
+use Rattle.search.specs.Seen.{windowOf}
+use Rattle.search.specs.When.{promptOf, about, fractionAt, timingAt, indexOf}
+use Rattle.search.specs.Answers.{answerOf}
+use Rattle.claims.specs.Timing.{movesFor, WellTimed}
+use Rattle.claims.proofs.Moves.{moves-are}
 
 fraction-fits : (parabola : Float) (offset : Offset) → T (fits binary32 (fractionOf parabola offset))
 unfolding fractionOf
 fraction-fits parabola offset = sub-fits binary32 _ _
 
--- what is a number in the end was one at the start
-number-before : (f : Float) → isNan (rest f) ≡ false → isNan f ≡ false
-number-before f e = go (isNan f) refl
-  where
-    go : (b : Bool) → isNan f ≡ b → isNan f ≡ false
-    go false q = q
-    go true q =
-        let n : f ≡ nan = nan-is f q in
-        absurd (true≢false (sym q ∙ ap isNan (n ∙ sym (ap rest n ∙ nan-stays .0)) ∙ e))
+-- the index with the moves, where it has as many to lose
+moved-index : (given start : ℕ) (z : ℤ) → natAbs z ≤ given - 128 + start → pos (indexOf given start (movesOf z)) ≡ pos (given - 128 + start) +ℤ z
+unfolding indexOf
+moved-index given start (pos n) h = refl
+moved-index given start (negsuc n) h = sym (sub-ge (given - 128 + start) (suc n) (omega arith))
 
-same-count : (m : Moves) → laws.countOf m ≡ countOf m
-same-count (On n) = refl
-same-count (Back n) = refl
+by-hand : (given : ℕ) (p : Place) → given - 128 + sampleStart p ≡ given - 128 + 4 * (2 * p .bit + p .symbol) + p .phase
+by-hand given p = omega arith
 
-module _ (w : Window) (message : List ℕ) (start : ℕ) where
-  pub moves-few : countOf (timingAt w message start .moves) ≤ 2
-  unfolding timingAt
-  moves-few = let t = timingOf (fractionOf (about w message (promptOf w message start)) (promptOf w message start .offset)) in
-      subst (λ (n : ℕ). n ≤ 2) (same-count (t .moves)) (few-moves _)
-
-  pub fraction-inside : isNan (timingAt w message start .fraction) ≡ false → Inside (timingAt w message start .fraction)
-  unfolding timingAt timingOf
-  fraction-inside e =
-      let p = promptOf w message start in
-      let f = fractionOf (about w message p) (p .offset) in
-      ends-in-range f (fraction-fits _ _) (reaches _ _) (number-before f e)
+pub timed : (samples : List Float) (index : ℕ) (c : Candidate) → 1 ≤ c .place .bit → WellTimed samples index (answerOf samples index c)
+unfolding answerOf timingAt timingOf
+timed samples index c h =
+    let w = windowOf 14 samples in
+    let start = sampleStart (c .place) in
+    let f = fractionAt w (c .message) start in
+    let p = promptOf w (c .message) start in
+    let t = fraction-fits (about w (c .message) p) (p .offset) in
+    let r = reaches (about w (c .message) p) (p .offset) in
+    let two = at-most-two f in
+    let m : gained f ≡ movesFor f = moves-are f (fraction-reaches (about w (c .message) p) (p .offset)) in
+    record {
+      gained =
+          moved-index index start (gained f) (omega arith)
+          ∙ ap (λ (i : ℕ). pos i +ℤ gained f) (by-hand index (c .place))
+          ∙ ap (λ (k : ℤ). pos (index - 128 + 4 * (2 * c .place .bit + c .place .symbol) + c .place .phase) +ℤ k) m;
+      lost = λ e. subst (λ (k : ℤ). LessBy k f (afterMoves f)) m (moves-exact f t r e);
+      within = ends-in-range f t r;
+      nan-stays = λ e. let n = nan-is f e in ap isNan (ap afterMoves n ∙ nan-stays .0 ∙ sym n) ∙ e;
+    }

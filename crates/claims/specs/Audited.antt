@@ -1,91 +1,84 @@
 -- WHAT IS CLAIMED OF A DECODE: `a` is its answer for the samples of a window, the settings `s` and the index of the window's sample 128.
 -- Assumes nothing.
 use mathlib.Core.Path.{_≡_}
-use mathlib.Core.Bool.{true, false}
+use mathlib.Core.Bool.{true}
 use mathlib.Core.List.{List}
-use mathlib.Core.Logic.{_↔_, _≢_}
-use mathlib.Core.Option.{some}
-use Prim.Native.Nat.{ℕ, _+_, _-_, _≤_, _<_}
-use lib.Ieee.{Float, lt, le, isNan}
+use mathlib.Core.Logic.{_⊎_, _↔_, _≢_}
+use Prim.Native.Nat.{ℕ, _≤_, _<_}
+use lib.ListN.{replicate}
+use lib.Ieee.{Float, binary32, ofBits, eq, isNan}
 use Rattle.lists.specs.Bits.{bitAt}
-use Rattle.annex10.specs.Repair.{count, Named}
+use Rattle.annex10.specs.Repair.{count, Named, repaired}
+use Rattle.annex10.specs.declared.Repairs.{Repairs}
+use Rattle.annex10.specs.declared.Repairs.the-variants.{None}
 use Rattle.place.specs.declared.Place.{Place}
-use Rattle.place.specs.Step.{sampleStart}
-use Rattle.place.specs.All.{listed}
-use Rattle.timing.specs.declared.Moves.{Moves}
-use Rattle.timing.specs.declared.Moves.the-variants.{Back, On}
-use Rattle.timing.specs.declared.Timing.{Timing}
-use Rattle.timing.specs.Subsample.{halves}
+use Rattle.place.specs.declared.Slicer.{Slicer}
+use Rattle.place.specs.declared.Slicer.the-variants.{Coherent}
 use Rattle.search.specs.declared.Settings.{Settings}
-use Rattle.search.specs.declared.Candidate.{Candidate}
 use Rattle.search.specs.declared.Answer.{Answer}
-use Rattle.search.specs.Choice.{best}
 use Rattle.search.specs.Kinds.{long}
+use Rattle.search.specs.Window.{_∈_}
 use Rattle.search.specs.Seen.{bitsAt, windowOf}
-use Rattle.search.specs.Timed.{timingAt, indexOf}
-use Rattle.search.specs.Answers.{refusedAnswer, decodeOf}
 use Rattle.claims.specs.Bits.{slicerBit}
-use Rattle.claims.specs.Statements.{atLevel, Mended, OnlyRepair, Founded}
-use Rattle.claims.specs.Calls.{heldAt, Numbered}
-
--- The fields of an answer are those of a reading.
-pub record SameFields (c : Candidate) (a : Answer) : Type 0 where
-  pub place : a .place ≡ c .place
-  pub slicer : a .slicer ≡ c .slicer
-  pub repairs : a .repairs ≡ c .repairs
-  pub message : a .message ≡ c .message
-  pub cn0 : a .cn0 ≡ c .cn0
-
--- by how many samples the index moves
-abbrev pub countOf : Moves → ℕ
-countOf (On n) = n
-countOf (Back n) = n
-
--- the timing of the answer's message at its place
-abbrev pub timingFor : List Float → Answer → Timing
-timingFor samples a = timingAt (windowOf 14 samples) (a .message) (sampleStart (a .place))
-
--- Index and fraction say when the message came.
-pub record WellTimed (samples : List Float) (index : ℕ) (a : Answer) : Type 0 where
-  pub index-is : a .index ≡ indexOf index (sampleStart (a .place)) (timingFor samples a .moves)
-  pub fraction-is : a .fraction ≡ timingFor samples a .fraction
-  -- at most two samples move between the two, and there are always as many to move
-  pub moves : countOf (timingFor samples a .moves) ≤ 2
-  pub room : countOf (timingFor samples a .moves) ≤ index - 128 + sampleStart (a .place)
-  -- a fraction that is a number is at least -0.5 and below 0.5
-  pub within : isNan (a .fraction) ≡ false
-      → (le (halves true 1) (a .fraction) ≡ true) × (lt (a .fraction) (halves false 1) ≡ true)
+use Rattle.claims.specs.Fits.{Fits, cn0With, OnlyRepair}
+use Rattle.claims.specs.Chosen.{Chosen}
+use Rattle.claims.specs.Calls.{Accepted, Numbered}
+use Rattle.claims.specs.Timing.{WellTimed}
 
 -- An answer with number 0.
 pub record Returned (samples : List Float) (s : Settings) (index : ℕ) (a : Answer) : Type 0 where
-  -- 1. It is what the search returned, and the surviving reading of the place that it names, one of the 248.
-  pub reading : Candidate
-  pub found : best long s (windowOf 14 samples) ≡ some reading
-  pub fields : SameFields reading a
-  pub founded : Founded long s (windowOf 14 samples) reading
-  pub among : listed 31 (a .place) ≡ true
-  pub survives : heldAt samples s (a .place) ≡ some reading
-  -- The message was made from the 112 bits of the slicer that it names, at that place, with no more repairs than the level permits.
-  pub mended : Mended long (s .level) (bitsAt 14 samples (a .slicer) (a .place)) (a .repairs) (a .message)
+  -- 1. The place that it names holds the repairs that it names, of the slicer that it names, and they are chosen among all places.
+  pub chosen : Chosen long s (windowOf 14 samples) (a .place) (a .slicer) (a .repairs)
+  -- The message is that slicer's 112 bits there, turned over at these positions; the cn0 is the message's.
+  pub message : a .message ≡ repaired (bitsAt 14 samples (a .slicer) (a .place)) (a .repairs)
+  pub cn0 : a .cn0 ≡ cn0With (windowOf 14 samples) (a .place) (a .slicer) (a .repairs)
   -- In samples: each of its bits is unlike the comparison of two symbols exactly when its position is named.
   pub differs : (j : ℕ) → j < 112 → (bitAt (a .message) j ≢ slicerBit samples (a .slicer) (a .place) j) ↔ Named j (a .repairs)
   -- 2. No other choice of at most two different positions clears those bits.
   pub only-repair : OnlyRepair 14 (bitsAt 14 samples (a .slicer) (a .place)) (a .repairs)
-  -- 3. None of the 248 places holds a surviving reading with fewer repairs.
-  pub fewest : (p : Place) (b : Candidate) → listed 31 p ≡ true → heldAt samples s p ≡ some b
-      → count (a .repairs) ≤ count (b .repairs)
-  -- 5. At a higher level the answer is the same.
-  pub higher : (m : ℕ) → s .level ≤ m → m ≤ 2 → decodeOf samples (atLevel m s) index ≡ a
-  -- 6. When it came.
+  -- 3. When it came.
   pub timed : WellTimed samples index a
 
+-- All fields but the number are zeros: for the slicer and the repairs that means coherent and none.
+pub record Zeros (a : Answer) : Type 0 where
+  pub place : a .place ≡ record { bit = 0; phase = 0; symbol = 0 }
+  pub message : a .message ≡ replicate 14 0
+  pub repairs : a .repairs ≡ None
+  pub slicer : a .slicer ≡ Coherent
+  pub cn0 : a .cn0 ≡ ofBits binary32 0
+  pub index : a .index ≡ 0
+  pub fraction : a .fraction ≡ ofBits binary32 0
+
 -- Every answer.
-pub record Audited (samples : List Float) (s : Settings) (index : ℕ) (a : Answer) : Type 0 where
-  -- 4. Its number: 1 exactly when none of the 248 places holds a surviving reading, 0 exactly when one does, else the refusal.
+pub record Answered (samples : List Float) (s : Settings) (index : ℕ) (a : Answer) : Type 0 where
+  -- 4. Its number: 1 exactly when none of the 248 places holds anything, 0 exactly when one does, else the refusal.
   pub numbered : Numbered samples s index (a .number)
-  -- Where the number is 0, all of the above.
   pub returned : a .number ≡ 0 → Returned samples s index a
-  -- With any other number all other fields are zeros.
-  pub zeros : a .number ≢ 0 → a ≡ refusedAnswer (a .number)
-  -- 7. No other answer is permitted.
-  pub determined : (b : Answer) → b ≡ decodeOf samples s index → b ≡ a
+  pub zeros : a .number ≢ 0 → Zeros a
+  -- 5. It cannot keep silent: where anything fits with at most one position, the number is 0, and no more positions are named.
+  pub not-silent : Accepted samples s index → (p : Place) → p ∈ long .places → (z : Slicer) (ρ : Repairs)
+      → Fits long s (windowOf 14 samples) p z ρ → count ρ ≤ 1 → (a .number ≡ 0) × (count (a .repairs) ≤ count ρ)
+
+-- Two answers are the same: the fraction as a number, or as no number.
+pub record Same (a b : Answer) : Type 0 where
+  pub number : a .number ≡ b .number
+  pub place : a .place ≡ b .place
+  pub slicer : a .slicer ≡ b .slicer
+  pub repairs : a .repairs ≡ b .repairs
+  pub message : a .message ≡ b .message
+  pub cn0 : a .cn0 ≡ b .cn0
+  pub index : a .index ≡ b .index
+  pub fraction : (eq (a .fraction) (b .fraction) ≡ true) ⊎ ((isNan (a .fraction) ≡ true) × (isNan (b .fraction) ≡ true))
+
+-- the settings with another level
+abbrev pub atLevel : ℕ → Settings → Settings
+atLevel m s = record { level = m; threshold = s .threshold; second = s .second; distance = s .distance }
+
+-- ALL OF IT: `decode` is what a program answers.
+pub record Audited (decode : List Float → Settings → ℕ → Answer) : Type 0 where
+  pub answered : (samples : List Float) (s : Settings) (index : ℕ) → Answered samples s index (decode samples s index)
+  -- 6. What is returned at one level is returned, all fields included, at every higher level.
+  pub higher : (samples : List Float) (s : Settings) (index m : ℕ) → decode samples s index .number ≡ 0 → s .level ≤ m → m ≤ 2
+      → decode samples (atLevel m s) index ≡ decode samples s index
+  -- 7. These claims leave nothing open: whatever else satisfies them is the same answer.
+  pub only : (samples : List Float) (s : Settings) (index : ℕ) (b : Answer) → Answered samples s index b → Same b (decode samples s index)

@@ -4,18 +4,18 @@ use mathlib.Core.Path.{_≡_}
 use mathlib.Core.Bool.{true}
 use mathlib.Core.List.{List}
 use mathlib.Core.Logic.{_↔_, _≢_}
-use mathlib.Core.Option.{Option, none, some}
 use Prim.Native.Nat.{ℕ, _^_, _≤_}
 use lib.ListN.{length}
 use lib.Ieee.{Float}
 use lib.Ieee.Scale.{finite}
+use Rattle.annex10.specs.declared.Repairs.{Repairs}
 use Rattle.place.specs.declared.Place.{Place}
-use Rattle.place.specs.All.{listed}
+use Rattle.place.specs.declared.Slicer.{Slicer}
 use Rattle.search.specs.declared.Settings.{Settings}
-use Rattle.search.specs.declared.Candidate.{Candidate}
-use Rattle.search.specs.Choice.{candidateAt}
-use Rattle.search.specs.Kinds.{long}
+use Rattle.search.specs.Kinds.{Kind, long}
+use Rattle.search.specs.Window.{Window}
 use Rattle.search.specs.Seen.{windowOf}
+use Rattle.claims.specs.Chosen.{Held}
 
 -- ---- what is accepted
 
@@ -40,20 +40,13 @@ Accepted samples s index = RightLength samples × RightLevel s × RightThreshold
 
 -- ---- what the places hold
 
--- the surviving reading of a place, if it holds one
-abbrev pub heldAt : List Float → Settings → Place → Option Candidate
-heldAt samples s p = candidateAt long s (windowOf 14 samples) p
-
--- none of the 248 places holds a surviving reading
-abbrev pub NoneHeld : List Float → Settings → Type 0
-NoneHeld samples s = (p : Place) → listed 31 p ≡ true → heldAt samples s p ≡ none
+-- none of them holds anything
+abbrev pub NoneHeld : Kind → Settings → Window → Type 0
+NoneHeld kind s w = (p : Place) (z : Slicer) (ρ : Repairs) → ¬ Held kind s w p z ρ
 
 -- one of them does
-pub record SomeHeld (samples : List Float) (s : Settings) : Type 0 where
-  pub place : Place
-  pub among : listed 31 place ≡ true
-  pub reading : Candidate
-  pub held : heldAt samples s place ≡ some reading
+abbrev pub SomeHeld : Kind → Settings → Window → Type 0
+SomeHeld kind s w = (p : Place) × (z : Slicer) × (ρ : Repairs) × Held kind s w p z ρ
 
 -- ---- the number: each is given exactly when it is the lowest from 2 up that applies; 1 and 0 where none does
 
@@ -62,8 +55,8 @@ pub record Numbered (samples : List Float) (s : Settings) (index number : ℕ) :
   pub four : (number ≡ 4) ↔ (RightLength samples × ¬ RightLevel s)
   pub five : (number ≡ 5) ↔ (RightLength samples × RightLevel s × ¬ RightThresholds s)
   pub six : (number ≡ 6) ↔ (RightLength samples × RightLevel s × RightThresholds s × ¬ RightIndex index)
-  pub one : (number ≡ 1) ↔ (Accepted samples s index × NoneHeld samples s)
-  pub zero : (number ≡ 0) ↔ (Accepted samples s index × SomeHeld samples s)
+  pub one : (number ≡ 1) ↔ (Accepted samples s index × NoneHeld long s (windowOf 14 samples))
+  pub zero : (number ≡ 0) ↔ (Accepted samples s index × SomeHeld long s (windowOf 14 samples))
   -- there is no other number
   pub top : number ≤ 6
   pub not-three : number ≢ 3

@@ -14,6 +14,7 @@ use Rattle.listing.specs.Lines.{line, refusedLine, noneLine, foundLine, 
 use Rattle.listing.specs.Determines.{Stored, SameSaid, LineDetermines}
 use Rattle.listing.proofs.Split.{Aboves, line-same}
 use Rattle.listing.proofs.Visible.{digits-visible, float-visible, avr-visible, address-visible, repairs-visible, slicer-visible}
+use Rattle.listing.proofs.Decoded.{decode-stored}
 use Rattle.listing.proofs.Back.{written, decimal-back, decimal-same, avr-same, float-same, repairs-same, slicer-same}
 
 -- ---- the fields of a window's line, by its number
@@ -114,10 +115,14 @@ module _ (k l : ℕ) (a b : Answer) (K : k < 2 ^ 64) (L : l < 2 ^ 64) (A : Store
   said (suc zero) (suc (suc n)) p q e = absurd (not-refused k K (head-eq-of-cons-eq e))
   said (suc (suc m)) (suc zero) p q e = absurd (not-refused l L (sym (head-eq-of-cons-eq e)))
 
+same-line : (k l : ℕ) (a b : Answer) → k < 2 ^ 64 → l < 2 ^ 64 → Stored a → Stored b → windowLine k a ≡ windowLine l b → SameSaid k l a b
+same-line k l a b K L A B e =
+    said k l a b K L A B (a .number) (b .number) refl refl
+    (line-same _ _ _ _ (visible (a .number) k a) (visible (b .number) l b) (sym (line-said (a .number) k a refl) ∙ e ∙ line-said (b .number) l b refl))
+
 pub line-determines : LineDetermines
 line-determines =
     record {
-      same = λ k l a b K L A B e.
-          said k l a b K L A B (a .number) (b .number) refl refl
-          (line-same _ _ _ _ (visible (a .number) k a) (visible (b .number) l b) (sym (line-said (a .number) k a refl) ∙ e ∙ line-said (b .number) l b refl));
+      same = same-line;
+      decoded = λ k l samples others s t i j K L e. same-line k l _ _ K L (decode-stored samples s i) (decode-stored others t j) e;
     }

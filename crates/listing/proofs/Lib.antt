@@ -6,5 +6,6 @@ pub mod Worked
 pub mod Split
 pub mod Visible
 pub mod Back
+pub mod Decoded
 pub mod Determines
 pub mod Typed

@@ -1,13 +1,16 @@
 -- FROM A LINE BACK TO ITS ANSWER: two windows with the same line have the same answer, in all that a line says.
 -- Assumes nothing.
 use mathlib.Core.Path.{_≡_}
+use mathlib.Core.List.{List}
 use Prim.Native.Nat.{ℕ, _^_, _<_, _≤_}
 use lib.Dec.{T}
-use lib.Ieee.{binary32, fits}
+use lib.Ieee.{Float, binary32, fits}
 use lib.ListN.{getD}
 use Rattle.annex10.specs.declared.Repairs.{Repairs}
 use Rattle.annex10.specs.declared.Repairs.the-variants.{None, One, Two}
+use Rattle.search.specs.declared.Settings.{Settings}
 use Rattle.search.specs.declared.Answer.{Answer}
+use Rattle.search.specs.Answers.{decodeOf}
 use Rattle.listing.specs.Lines.{windowLine}
 
 -- each position is a byte
@@ -40,5 +43,9 @@ pub record SameSaid (k l : ℕ) (a b : Answer) : Type 0 where
   pub cn0 : a .number ≡ 0 → a .cn0 ≡ b .cn0
 
 pub record LineDetermines : Type 0 where
+  -- of all answers that are values of their type
   pub same : (k l : ℕ) (a b : Answer) → k < 2 ^ 64 → l < 2 ^ 64 → Stored a → Stored b
       → windowLine k a ≡ windowLine l b → SameSaid k l a b
+  -- of decodes, whatever the samples, the settings and the indices are
+  pub decoded : (k l : ℕ) (samples others : List Float) (s t : Settings) (i j : ℕ) → k < 2 ^ 64 → l < 2 ^ 64
+      → windowLine k (decodeOf samples s i) ≡ windowLine l (decodeOf others t j) → SameSaid k l (decodeOf samples s i) (decodeOf others t j)

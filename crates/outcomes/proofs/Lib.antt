@@ -1,6 +1,7 @@
 pub mod Law
 pub mod Carrier
 pub mod Cn0
+pub mod Feed
 pub mod Hash
 pub mod Kernels
 pub mod Khlongrae

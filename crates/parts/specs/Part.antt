@@ -6,10 +6,13 @@ use Prim.Native.Nat.{ℕ, _+_, _-_, _*_, _/_, _%_}
 use lib.Dec.{eqb, leb}
 use lib.Ieee.{Float}
 use lib.ListN.{length, take, drop}
+use Rattle.lists.specs.Told.{Told, done, refused, tell}
 use Rattle.place.specs.declared.Place.{Place}
 use Rattle.place.specs.declared.Slicer.{Slicer}
 use Rattle.place.specs.declared.Slicer.the-variants.{Coherent, Noncoherent}
 use Rattle.place.specs.Step.{symbolStart, sampleStart, within}
+use Rattle.parts.specs.declared.PartSize.{PartSize}
+use Rattle.parts.specs.declared.PartSize.the-variants.{Is, Refused}
 
 -- 2 unless there are so many numbers, 7 unless the message ends within the window
 unfoldable pub rowRefusal : ℕ → ℕ → List Float → Place → ℕ
@@ -36,6 +39,14 @@ chosen Noncoherent coherent noncoherent = noncoherent
 -- n bytes, or one more where the bit offset is no multiple of 8
 unfoldable pub partSize : ℕ → ℕ → ℕ
 partSize n bit = cond (eqb (bit % 8) 0) n (n + 1)
+
+abbrev pub sizeTold : PartSize → Told ℕ
+sizeTold (Is size) = done size
+sizeTold (Refused number) = refused number
+
+-- the same, where the message ends within a stream
+unfoldable pub sizeAt : ℕ → ℕ → Told ℕ
+sizeAt n bit = tell (cond (leb bit (144 - 8 * n)) 0 7) (partSize n bit)
 
 -- the bytes of the named stream that hold the message's bits
 unfoldable pub slicerPart : ℕ → List ℕ → List ℕ → ℕ → Slicer → List ℕ

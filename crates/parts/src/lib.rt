@@ -2,7 +2,13 @@
 use place::Place;
 use place::Slicer;
 ghost use mathlib.Core.Path.{_≡_};
-ghost use Rattle.parts.specs.Part.{rowRefusal, symbolsFor, samplesFor, streamsRefusal, partSize, slicerPart};
+ghost use Rattle.parts.specs.Part.{rowRefusal, symbolsFor, samplesFor, streamsRefusal, partSize, sizeTold, sizeAt, slicerPart};
+
+// How many bytes, or the refusal's number.
+pub enum PartSize {
+    Is(usize),
+    Refused(u32),
+}
 
 // The row of symbols of one clock phase: 288 symbols, two numbers each.
 pub fn symbols_refusal(row: &[f32], place: Place) -> u32
@@ -74,10 +80,20 @@ pub fn slicer_refusal(coherent: &[u8], noncoherent: &[u8], bit: usize) -> u32
 }
 
 // How many bytes hold the 112 bits from a bit offset on.
-pub fn part_size(bit: usize) -> usize
+fn bytes_from(bit: usize) -> usize
     ensures { λ r. ⌜ r ≡ partSize 14 bit ⌝ }
 {
     if bit % 8 == 0 { 14 } else { 15 }
+}
+
+// The same for others. Refused: 7 a bit offset from which 112 bits would end behind the stream.
+pub fn part_size(bit: usize) -> PartSize
+    ensures { λ r. ⌜ sizeTold r ≡ sizeAt 14 bit ⌝ }
+{
+    if bit > Place::BIT_MAX {
+        return PartSize::Refused(7);
+    }
+    PartSize::Is(bytes_from(bit))
 }
 
 // The bytes of the named slicer's stream that hold the 112 bits from a bit offset on.
@@ -93,7 +109,7 @@ pub fn slicer_part<'a>(
         return &coherent[..0];
     }
     let from = bit / 8;
-    let to = from + part_size(bit);
+    let to = from + bytes_from(bit);
     match slicer {
         Slicer::Coherent => &coherent[from..to],
         Slicer::Noncoherent => &noncoherent[from..to],

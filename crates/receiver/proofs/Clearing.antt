@@ -26,7 +26,7 @@ use Rattle.streams.proofs.Parting.{message-stream}
 use Rattle.hash.specs.Codes.{codeOf, codesOf, codesInto}
 use Rattle.hash.specs.Inner.{foundOf}
 use Rattle.hash.proofs.Owning.{any-back}
-use Rattle.receiver.specs.Inner.{Told}
+use Rattle.receiver.specs.Inner.{Known}
 
 -- ---- how they are made
 
@@ -127,7 +127,7 @@ module _ (coherent noncoherent crcs codes : List ℕ) (e : crcs ≡ crcsOf coher
 
     pub told-there : {c d : Found} {apart : Bool} {n : ℕ} → n ≡ 18 → c ≡ foundOf (getD codes (numbered p) 0) → d ≡ foundOf (getD codes (256 + numbered p) 0)
         → apart ≡ not (eqb (getD crcs (numbered p) 0) (getD crcs (256 + numbered p) 0))
-        → Told (take n (drop (36 * p .phase + 18 * p .symbol) coherent)) (take n (drop (36 * p .phase + 18 * p .symbol) noncoherent)) (p .bit) c d apart
+        → Known (take n (drop (36 * p .phase + 18 * p .symbol) coherent)) (take n (drop (36 * p .phase + 18 * p .symbol) noncoherent)) (p .bit) c d apart
     told-there z x y w =
         rw z (record { first = x ∙ first-found; second = y ∙ second-found; differ = w ∙ rw (first-crc, second-crc) })
 

@@ -4,7 +4,7 @@
 --     best-listed       what is found lies at one of the places
 --     -refused, -done   the answers
 -- Assumes nothing.
-use mathlib.Core.Path.{_≡_, refl, sym, ap, _∙_}
+use mathlib.Core.Path.{_≡_, refl, sym, ap, _∙_, subst}
 use mathlib.Core.Bool.{Bool, true, false, _&&_, cond}
 use mathlib.Core.List.{List}
 use mathlib.Core.Logic.{_≢_, inl, inr}
@@ -24,21 +24,23 @@ use Rattle.timing.specs.declared.Moves.{Moves}
 use Rattle.timing.specs.declared.Moves.the-variants.{Back, On}
 use Rattle.timing.specs.declared.Timing.{Timing}
 use Rattle.timing.specs.Subsample.{fractionOf}
-use Rattle.timing.proofs.Laws.{few-moves, countOf}
+use Rattle.timing.specs.Inner.{movesCount}
+use Rattle.timing.proofs.Laws.{few-moves}
 use Rattle.kernels.specs.Symbols.{symbolsOf}
 use Rattle.search.specs.declared.Settings.{Settings}
 use Rattle.search.specs.declared.Candidate.{Candidate}
-use Rattle.search.specs.declared.Read.{Read}
-use Rattle.search.specs.declared.Timed.{Timed}
+use Rattle.search.specs.declared.Survivor.{Survivor}
+use Rattle.search.specs.declared.Arrival.{Arrival}
 use Rattle.search.specs.declared.Answer.{Answer}
 use Rattle.search.specs.Choice.{candidate, candidateAt, best}
 use Rattle.search.specs.Window.{Window}
 use Rattle.search.specs.Kinds.{long}
-use Rattle.search.specs.Seen.{windowOf}
-use Rattle.search.specs.Timed.{promptOf, about, timingAt, indexOf}
-use Rattle.search.specs.Answers.{orNumber, windowNumber, settingsNumber, indexNumber, placeNumber, zero32, noCandidate, refusedAnswer, readOf, readOr, readAt, bestOf, timedAt, answerOf, decodeOf}
+use Rattle.search.specs.Seen.{row, promptAt, windowOf}
+use Rattle.search.specs.When.{promptOf, about, timingAt, indexOf}
+use Rattle.floats.specs.Zero.{zeroF}
+use Rattle.search.specs.Answers.{orNumber, windowNumber, settingsNumber, indexNumber, placeNumber, noCandidate, refusedAnswer, survivorOf, survivorOr, readAt, bestOf, arrivalAt, answerOf, decodeOf}
 use Rattle.search.proofs.Scanning.{scan-from, survivor-is, not-some}
-use Rattle.receiver.specs.Inner.{seenIn, movesCount, timedIn}
+use Rattle.receiver.specs.Inner.{powerIn, seenIn, arrivalIn}
 use Rattle.receiver.proofs.Prompting.{timing-seen}
 
 -- ---- what a number 0 says
@@ -57,14 +59,6 @@ window-taken samples = go (eqb (length samples) 2310) refl
     go : (b : Bool) → eqb (length samples) 2310 ≡ b → _≡_ {A = ℕ} (cond b 0 2) 0 → length samples ≡ 2310
     go true q e = eqb-true _ _ q
     go false q e = absurd (omega arith)
-
-pub settings-taken : (s : Settings) → settingsNumber s ≡ 0 → s .level ≤ 2
-unfolding settingsNumber
-settings-taken s = go (leb (s .level) 2) (finite (s .threshold) && finite (s .second)) refl
-  where
-    go : (b f : Bool) → leb (s .level) 2 ≡ b → _≡_ {A = ℕ} (cond b (cond f 0 5) 4) 0 → s .level ≤ 2
-    go true f q e = leb-true _ _ q
-    go false f q e = absurd (omega arith)
 
 pub index-taken : (index : ℕ) → indexNumber index ≡ 0 → (128 ≤ index) × (index ≤ 2 ^ 63)
 unfolding indexNumber
@@ -85,20 +79,20 @@ place-taken p = go (listed 31 p)
 
 pub record Taken (samples : List Float) (s : Settings) : Type 0 where
   pub whole : length samples ≡ 2310
-  pub level : s .level ≤ 2
+  pub settings : settingsNumber s ≡ 0
 
 module _ (samples : List Float) {n : ℕ} (z : n ≡ 0) where
   pub best-taken : (s : Settings) → n ≡ orNumber (windowNumber samples) (settingsNumber s) → Taken samples s
   best-taken s e =
       let (a, b) = or-zero _ _ (sym e ∙ z) in
-      record { whole = window-taken samples a; level = settings-taken s b }
+      record { whole = window-taken samples a; settings = b }
 
   pub read-taken : (s : Settings) (p : Place) → n ≡ orNumber (windowNumber samples) (orNumber (settingsNumber s) (placeNumber p))
       → Taken samples s × (listed 31 p ≡ true)
   read-taken s p e =
       let (a, b) = or-zero _ _ (sym e ∙ z) in
       let (c, d) = or-zero _ _ b in
-      (record { whole = window-taken samples a; level = settings-taken s c }, place-taken p d)
+      (record { whole = window-taken samples a; settings = c }, place-taken p d)
 
   pub decode-taken : (s : Settings) (index : ℕ) → n ≡ orNumber (windowNumber samples) (orNumber (settingsNumber s) (indexNumber index))
       → Taken samples s × (128 ≤ index) × (index ≤ 2 ^ 63)
@@ -106,7 +100,7 @@ module _ (samples : List Float) {n : ℕ} (z : n ≡ 0) where
       let (a, b) = or-zero _ _ (sym e ∙ z) in
       let (c, d) = or-zero _ _ b in
       let (l, h) = index-taken index d in
-      (record { whole = window-taken samples a; level = settings-taken s c }, l, h)
+      (record { whole = window-taken samples a; settings = c }, l, h)
 
   pub time-taken : (p : Place) (index : ℕ) → n ≡ orNumber (windowNumber samples) (orNumber (indexNumber index) (placeNumber p))
       → (length samples ≡ 2310) × (listed 31 p ≡ true) × (128 ≤ index) × (index ≤ 2 ^ 63)
@@ -118,13 +112,13 @@ module _ (samples : List Float) {n : ℕ} (z : n ≡ 0) where
 
 -- ---- what a search found
 
-pub read-some : (o : Option Candidate) {x : Read} → x ≡ readOf o → x .number ≡ 0 → o ≡ some (x .candidate)
-read-some none e z = absurd (omega (arith, ap (λ (r : Read). r .number) e))
-read-some (some c) e z = ap some (sym (ap (λ (r : Read). r .candidate) e))
+pub read-some : (o : Option Candidate) {x : Survivor} → x ≡ survivorOf o → x .number ≡ 0 → o ≡ some (x .candidate)
+read-some none e z = absurd (omega (arith, ap (λ (r : Survivor). r .number) e))
+read-some (some c) e z = ap some (sym (ap (λ (r : Survivor). r .candidate) e))
 
-pub read-none : (o : Option Candidate) {x : Read} → x ≡ readOf o → x .number ≢ 0 → o ≡ none
+pub read-none : (o : Option Candidate) {x : Survivor} → x ≡ survivorOf o → x .number ≢ 0 → o ≡ none
 read-none none e z = refl
-read-none (some c) e z = absurd (z (ap (λ (r : Read). r .number) e))
+read-none (some c) e z = absurd (z (ap (λ (r : Survivor). r .number) e))
 
 place-of : (s : Settings) (w : Window) (p : Place) {a : Candidate} → candidateAt long s w p ≡ some a → a .place ≡ p
 unfolding candidateAt candidate
@@ -137,52 +131,61 @@ best-listed s w e = elim (scan-from (candidateAt long s w) (long .places) none e
   | inr q ↦ rw (place-of s w (q .0) (q .2)) (member-listed 31 (q .0) (q .1))
 ]
 
--- ---- timing
+power-of : (s : Settings) (w : Window) (p : Place) {a : Candidate} → candidateAt long s w p ≡ some a → a .prompt ≡ w .prompt (a .place) (a .message)
+unfolding candidateAt candidate
+power-of s w p e = let v = survivor-is s w p _ e in subst (λ (c : Candidate). c .prompt ≡ w .prompt (c .place) (c .message)) (v .is) refl
 
-same-count : (m : Moves) → movesCount m ≡ countOf m
-same-count (Back n) = refl
-same-count (On n) = refl
+-- what is found has its power at its place
+pub best-power : (s : Settings) (samples : List Float) {a : Candidate} → best long s (windowOf 14 samples) ≡ some a
+    → a .prompt ≡ powerIn (symbolsOf samples) (a .place) (a .message)
+unfolding best windowOf promptAt powerIn row
+best-power s samples e = elim (scan-from (candidateAt long s (windowOf 14 samples)) (long .places) none e) [
+  | inl q ↦ not-some q
+  | inr q ↦ power-of s (windowOf 14 samples) (q .0) (q .2)
+]
+
+-- ---- timing
 
 pub moves-few : (w : Window) (message : List ℕ) (s : ℕ) {t : Timing} → t ≡ timingAt w message s → movesCount (t .moves) ≤ 2
 unfolding timingAt
-moves-few w message s e = rw (e, same-count) (few-moves (fractionOf (about w message (promptOf w message s)) (promptOf w message s .offset)))
+moves-few w message s e = rw e (few-moves (fractionOf (about w message (promptOf w message s)) (promptOf w message s .offset)))
 
 pub timed-is : (symbols : List Float) (p : Place) (message : List ℕ) (index : ℕ) {t : Timing} {i : ℕ} → t ≡ timingAt (seenIn symbols) message (sampleStart p)
-    → i ≡ indexOf index (sampleStart p) (t .moves) → record { number = 0; index = i; fraction = t .fraction } ≡ timedIn symbols p message index
-unfolding timedIn
+    → i ≡ indexOf index (sampleStart p) (t .moves) → record { number = 0; index = i; fraction = t .fraction } ≡ arrivalIn symbols p message index
+unfolding arrivalIn
 timed-is symbols p message index et ei = rw (ei, et)
 
 -- ---- the answers
 
 module _ (samples : List Float) {n : ℕ} where
-  pub read-refused : (s : Settings) (p : Place) {x : Read} → n ≡ orNumber (windowNumber samples) (orNumber (settingsNumber s) (placeNumber p))
+  pub read-refused : (s : Settings) (p : Place) {x : Survivor} → n ≡ orNumber (windowNumber samples) (orNumber (settingsNumber s) (placeNumber p))
       → n ≢ 0 → x ≡ record { number = n; candidate = noCandidate } → x ≡ readAt samples s p
-  unfolding readAt readOr
+  unfolding readAt survivorOr
   read-refused s p e h ex = rw (← e, ne-eqb n 0 h) ex
 
-  pub read-done : (s : Settings) (p : Place) {x : Read} → n ≡ orNumber (windowNumber samples) (orNumber (settingsNumber s) (placeNumber p))
-      → n ≡ 0 → x ≡ readOf (candidateAt long s (windowOf 14 samples) p) → x ≡ readAt samples s p
-  unfolding readAt readOr
+  pub read-done : (s : Settings) (p : Place) {x : Survivor} → n ≡ orNumber (windowNumber samples) (orNumber (settingsNumber s) (placeNumber p))
+      → n ≡ 0 → x ≡ survivorOf (candidateAt long s (windowOf 14 samples) p) → x ≡ readAt samples s p
+  unfolding readAt survivorOr
   read-done s p e z ex = rw (← e, eq-eqb n 0 z) ex
 
-  pub best-refused : (s : Settings) {x : Read} → n ≡ orNumber (windowNumber samples) (settingsNumber s)
+  pub best-refused : (s : Settings) {x : Survivor} → n ≡ orNumber (windowNumber samples) (settingsNumber s)
       → n ≢ 0 → x ≡ record { number = n; candidate = noCandidate } → x ≡ bestOf samples s
-  unfolding bestOf readOr
+  unfolding bestOf survivorOr
   best-refused s e h ex = rw (← e, ne-eqb n 0 h) ex
 
-  pub best-done : (s : Settings) {x : Read} → n ≡ orNumber (windowNumber samples) (settingsNumber s)
-      → n ≡ 0 → x ≡ readOf (best long s (windowOf 14 samples)) → x ≡ bestOf samples s
-  unfolding bestOf readOr
+  pub best-done : (s : Settings) {x : Survivor} → n ≡ orNumber (windowNumber samples) (settingsNumber s)
+      → n ≡ 0 → x ≡ survivorOf (best long s (windowOf 14 samples)) → x ≡ bestOf samples s
+  unfolding bestOf survivorOr
   best-done s e z ex = rw (← e, eq-eqb n 0 z) ex
 
   pub time-refused : (p : Place) (message : List ℕ) (index : ℕ) → n ≡ orNumber (windowNumber samples) (orNumber (indexNumber index) (placeNumber p))
-      → n ≢ 0 → record { number = n; index = 0; fraction = zero32 } ≡ timedAt samples p message index
-  unfolding timedAt
+      → n ≢ 0 → record { number = n; index = 0; fraction = zeroF } ≡ arrivalAt samples p message index
+  unfolding arrivalAt
   time-refused p message index e h = rw (← e, ne-eqb n 0 h)
 
-  pub time-done : (p : Place) (message : List ℕ) (index : ℕ) {x : Timed} → n ≡ orNumber (windowNumber samples) (orNumber (indexNumber index) (placeNumber p))
-      → n ≡ 0 → x ≡ timedIn (symbolsOf samples) p message index → x ≡ timedAt samples p message index
-  unfolding timedAt timedIn
+  pub time-done : (p : Place) (message : List ℕ) (index : ℕ) {x : Arrival} → n ≡ orNumber (windowNumber samples) (orNumber (indexNumber index) (placeNumber p))
+      → n ≡ 0 → x ≡ arrivalIn (symbolsOf samples) p message index → x ≡ arrivalAt samples p message index
+  unfolding arrivalAt arrivalIn
   time-done p message index e z ex = rw (← e, eq-eqb n 0 z) (ex ∙ rw (timing-seen samples message (sampleStart p)))
 
   pub decode-refused : (s : Settings) (index : ℕ) {x : Answer} → n ≡ orNumber (windowNumber samples) (orNumber (settingsNumber s) (indexNumber index))
@@ -195,9 +198,9 @@ module _ (samples : List Float) {n : ℕ} where
   unfolding decodeOf
   decode-none s index e z b ex = rw (← e, eq-eqb n 0 z, b) ex
 
-  pub decode-done : (s : Settings) (index : ℕ) (c : Candidate) {t : Timed} → n ≡ orNumber (windowNumber samples) (orNumber (settingsNumber s) (indexNumber index))
-      → n ≡ 0 → best long s (windowOf 14 samples) ≡ some c → t ≡ timedIn (symbolsOf samples) (c .place) (c .message) index
+  pub decode-done : (s : Settings) (index : ℕ) (c : Candidate) {t : Arrival} → n ≡ orNumber (windowNumber samples) (orNumber (settingsNumber s) (indexNumber index))
+      → n ≡ 0 → best long s (windowOf 14 samples) ≡ some c → t ≡ arrivalIn (symbolsOf samples) (c .place) (c .message) index
       → record { number = 0; place = c .place; message = c .message; repairs = c .repairs; slicer = c .slicer; cn0 = c .cn0; index = t .index; fraction = t .fraction }
       ≡ decodeOf samples s index
-  unfolding decodeOf answerOf timedIn
+  unfolding decodeOf answerOf arrivalIn
   decode-done s index c e z b et = rw (← e, eq-eqb n 0 z, b, et, timing-seen samples (c .message) (sampleStart (c .place)))

@@ -32,16 +32,16 @@ use Rattle.search.specs.declared.Reading.{Reading}
 use Rattle.search.specs.declared.Tried.{Tried}
 use Rattle.search.specs.declared.Tried.the-variants.{Pass, Fail}
 use Rattle.search.specs.declared.Candidate.{Candidate}
-use Rattle.search.specs.declared.Read.{Read}
+use Rattle.search.specs.declared.Survivor.{Survivor}
 use Rattle.search.specs.Trials.{reading}
 use Rattle.search.specs.Choice.{candidate, dropped, survivor, candidateAt, scan, best}
 use Rattle.search.specs.Window.{Window}
 use Rattle.search.specs.Kinds.{long}
 use Rattle.search.specs.Seen.{row, stream, bitsAt, promptAt, noiseAt, windowOf}
-use Rattle.search.specs.Answers.{readOf}
+use Rattle.search.specs.Answers.{survivorOf}
 use Rattle.hash.specs.Inner.{foundOf}
-use Rattle.trials.proofs.Turns.{none-read}
-use Rattle.receiver.specs.Inner.{rowsOf, Ready, Streams, Told, seenAt}
+use Rattle.receiver.proofs.Turns.{none-read}
+use Rattle.receiver.specs.Inner.{rowsOf, Ready, Streams, Known, seenAt}
 use Rattle.receiver.proofs.Clearing.{numbered, both-length, codes-length, first-found, second-found, told-there, silent, both-silent}
 use Rattle.receiver.proofs.Storing.{rows-length, rows-part}
 
@@ -138,9 +138,9 @@ module _ (samples symbols : List Float) (coherent noncoherent crcs codes : List 
         low = omega arith;
       }
 
-  pub lent-read : (s : Settings) {x : Read}
-      → x ≡ readOf (candidateAt long s (seenAt samples (take i (drop (576 * p .phase) symbols)) (take j (drop at coherent)) (take j (drop at noncoherent))) p)
-      → x ≡ readOf (candidateAt long s (windowOf 14 samples) p)
+  pub lent-read : (s : Settings) {x : Survivor}
+      → x ≡ survivorOf (candidateAt long s (seenAt samples (take i (drop (576 * p .phase) symbols)) (take j (drop at coherent)) (take j (drop at noncoherent))) p)
+      → x ≡ survivorOf (candidateAt long s (windowOf 14 samples) p)
   lent-read s e =
       let r : take i (drop (576 * p .phase) symbols) ≡ row samples (p .phase)
       = ap (λ (n : ℕ). take n (drop (576 * p .phase) symbols)) ei ∙ row-is samples symbols coherent noncoherent crcs codes ready p h in
@@ -148,12 +148,12 @@ module _ (samples symbols : List Float) (coherent noncoherent crcs codes : List 
       = ap (λ (n : ℕ). take n (drop at coherent)) ej ∙ first-is samples symbols coherent noncoherent crcs codes ready p h in
       let n : take j (drop at noncoherent) ≡ stream samples Noncoherent p
       = ap (λ (n : ℕ). take n (drop at noncoherent)) ej ∙ second-is samples symbols coherent noncoherent crcs codes ready p h in
-      e ∙ rw (r, c, n) (ap readOf (seen-there samples p s))
+      e ∙ rw (r, c, n) (ap survivorOf (seen-there samples p s))
 
   -- what clears the two messages is told
   pub lent-told : {c d : Found} {apart : Bool} → c ≡ foundOf (getD codes (numbered p) 0) → d ≡ foundOf (getD codes (256 + numbered p) 0)
       → apart ≡ not (eqb (getD crcs (numbered p) 0) (getD crcs (256 + numbered p) 0))
-      → Told (take j (drop at coherent)) (take j (drop at noncoherent)) (p .bit) c d apart
+      → Known (take j (drop at coherent)) (take j (drop at noncoherent)) (p .bit) c d apart
   lent-told =
       told-there coherent noncoherent crcs codes (ready .remainders) (ready .clear) p h
       (ready-sizes samples symbols coherent noncoherent crcs codes ready .remainders) ej
@@ -181,13 +181,13 @@ module _ (samples symbols : List Float) (coherent noncoherent crcs codes : List 
 -- the same in the order of the scan
 module _ (samples symbols : List Float) (coherent noncoherent crcs codes : List ℕ) (ready : Ready samples symbols coherent noncoherent crcs codes) where
   pub skipped : (s : Settings) (k : ℕ) {b : Bool} → k < 248
-      → b ≡ (ltb (getD codes (8 + k) 0) 65536 || ltb (getD codes (264 + k) 0) 65536) → b ≡ false
+      → b ≡ (ltb (getD codes (8 + k) 0) 65536 || ltb (getD codes (256 + (8 + k)) 0) 65536) → b ≡ false
       → candidateAt long s (windowOf 14 samples) (placeAt k) ≡ none
   unfolding placeAt
   skipped s k h e f =
       let m : k % 8 ≡ k / 2 % 4 * 2 + k % 2 = mod-mul k (lit< tt) (lit< tt) in
       let i : 8 + k ≡ numbered (placeAt k) = omega arith in
-      let j : 264 + k ≡ 256 + numbered (placeAt k) = omega arith in
+      let j : 256 + (8 + k) ≡ 256 + numbered (placeAt k) = omega arith in
       let (x, y) = both-silent _ _ (sym e ∙ f) in
       none-there samples symbols coherent noncoherent crcs codes ready (placeAt k) (listed-at 31 k h) s
       (ap (λ (n : ℕ). foundOf (getD codes n 0)) (sym i) ∙ silent _ x)

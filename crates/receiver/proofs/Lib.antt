@@ -1,6 +1,9 @@
 pub mod Storing
 pub mod Looking
 pub mod Prompting
+pub mod Trying
+pub mod Turns
+pub mod Answering
 pub mod Weighing
 pub mod Clearing
 pub mod Finding

@@ -2,7 +2,7 @@
 --     power-is, both-is      the powers of a message
 --     message-is             the named slicer's bits, repaired
 -- Assumes nothing.
-use mathlib.Core.Path.{_≡_, ap, _∙_}
+use mathlib.Core.Path.{_≡_, sym, ap, _∙_}
 use mathlib.Core.Bool.{true}
 use mathlib.Core.List.{List}
 use Prim.Native.Nat.{ℕ, _%_, _≤_}
@@ -21,9 +21,10 @@ use Rattle.parts.proofs.Taken.{symbols-long, samples-long, part-done, part-long
 use Rattle.kernels.specs.declared.power.Power.{Power}
 use Rattle.kernels.specs.declared.power.Power.the-variants.{Is}
 use Rattle.kernels.specs.declared.both.Powers.{Powers}
-use Rattle.kernels.specs.Powers.{powerOf, noiseOf, powerAt}
+use Rattle.kernels.specs.Powers.{powerOf, noiseOf, powerTold, powerAt}
 use Rattle.kernels.specs.Both.{powersAt}
 use Rattle.kernels.proofs.Measuring.{power-done}
+use Rattle.kernels.proofs.Told.{powerUntold, power-back}
 use Rattle.streams.specs.declared.message.Message.{Message}
 use Rattle.streams.specs.Streams.{messageAt}
 use Rattle.streams.specs.Messages.{partMessage}
@@ -34,12 +35,14 @@ row-taken : (size : ℕ) (xs : List Float) (p : Place) → length xs ≡ size �
 unfolding rowRefusal
 row-taken size xs p e w = rw (eq-eqb _ _ e, w)
 
-module _ (xs : List Float) (p : Place) (message : List ℕ) {part : List Float} {a : Power} where
-  pub power-is : length xs ≡ 576 → within 14 p ≡ true → length message ≡ 14 → part ≡ symbolsFor 14 xs p → a ≡ powerAt part message
+module _ (xs : List Float) (p : Place) (message : List ℕ) {part : List Float} (a : Power) where
+  pub power-is : length xs ≡ 576 → within 14 p ≡ true → length message ≡ 14 → part ≡ symbolsFor 14 xs p → powerTold a ≡ powerAt part message
       → a ≡ Is (powerOf 14 (symbolsFor 14 xs p) message)
   power-is l w m e f =
+      sym (power-back a) ∙ ap powerUntold (
       f ∙ ap (λ (x : List Float). powerAt x message) e
       ∙ power-done (symbolsFor 14 xs p) message (symbols-long 14 xs p (omega arith) (row-taken 576 xs p l w)) m
+      )
 
 pub both-is : (samples row : List Float) (p : Place) (message : List ℕ) {a b : List Float} {r : Powers} → length samples ≡ 2310 → length row ≡ 576
     → within 14 p ≡ true → length message ≡ 14 → a ≡ symbolsFor 14 row p → b ≡ samplesFor 14 samples p → r ≡ powersAt a b message

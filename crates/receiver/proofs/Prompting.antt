@@ -1,19 +1,22 @@
 -- The places that timing looks at, and that what it looks at is the window.
 --     room            a place that is searched has two places either way
 --     around          the prompt is the place itself or a neighbour
---     stepped-        what a step answers
+--     earlier-is, later-is, at-done    what a step answers
 -- Assumes nothing.
 use mathlib.Core.Path.{_≡_, refl, sym, ap, _∙_}
 use mathlib.Core.Bool.{Bool, true, false, cond}
 use mathlib.Core.List.{List}
 use Prim.Native.Nat.{ℕ, _+_, _-_, _<_, _≤_}
 use native.Mathlib.Omega.{arith}
+use borrow.Author.Tests.{lt-ltb}
 use lib.Ieee.{Float, lt}
+use Rattle.lists.specs.Told.{done}
 use Rattle.place.specs.declared.Place.{Place}
 use Rattle.place.specs.declared.Stepped.{Stepped}
 use Rattle.place.specs.declared.Stepped.the-variants.{To}
-use Rattle.place.specs.Step.{sampleStart, startingAt, within, earlierOf, laterOf}
-use Rattle.place.specs.All.{listed}
+use Rattle.place.specs.Step.{sampleStart, startingAt, within, steppedTold, earlierOf, laterOf}
+use Rattle.place.specs.All.{listed, placeAt, listedAt}
+use Rattle.place.proofs.Told.{steppedUntold, stepped-back}
 use Rattle.place.proofs.Within.{within-gives, within-is}
 use Rattle.place.proofs.Steps.{own-start, start-of, starting-within, earlier-to, later-to, listed-within, listed-room}
 use Rattle.math.specs.Parabola.{parabola}
@@ -23,7 +26,7 @@ use Rattle.timing.specs.declared.Offset.{Offset}
 use Rattle.timing.specs.declared.Offset.the-variants.{Same, Earlier, Later}
 use Rattle.search.specs.declared.Prompt.{Prompt}
 use Rattle.search.specs.Window.{Window}
-use Rattle.search.specs.Timed.{lookAt, over, promptOf, about, timingAt}
+use Rattle.search.specs.When.{lookAt, over, promptOf, about, timingAt}
 use Rattle.search.specs.Seen.{windowOf, promptAt, row}
 use Rattle.kernels.specs.Symbols.{symbolsOf}
 use Rattle.receiver.specs.Inner.{powerIn, looked, seenIn}
@@ -46,11 +49,16 @@ room p h =
 
 -- ---- a step
 
-pub stepped-back : (p : Place) {s : Stepped} → within 14 p ≡ true → 0 < sampleStart p → s ≡ earlierOf 14 p → s ≡ To (startingAt (sampleStart p - 1))
-stepped-back p w h e = e ∙ earlier-to 14 p (within-gives 14 p w) h
+pub earlier-is : (p : Place) (s : Stepped) → within 14 p ≡ true → 0 < sampleStart p → steppedTold s ≡ earlierOf 14 p → s ≡ To (startingAt (sampleStart p - 1))
+earlier-is p s w h e = sym (stepped-back s) ∙ ap steppedUntold (e ∙ earlier-to 14 p (within-gives 14 p w) h)
 
-pub stepped-on : (p : Place) {s : Stepped} → within 14 p ≡ true → sampleStart p < 259 → s ≡ laterOf 14 p → s ≡ To (startingAt (sampleStart p + 1))
-stepped-on p w h e = e ∙ later-to 14 p (within-gives 14 p w) h
+pub later-is : (p : Place) (s : Stepped) → within 14 p ≡ true → sampleStart p < 259 → steppedTold s ≡ laterOf 14 p → s ≡ To (startingAt (sampleStart p + 1))
+later-is p s w h e = sym (stepped-back s) ∙ ap steppedUntold (e ∙ later-to 14 p (within-gives 14 p w) h)
+
+-- a place by its number
+pub at-done : (k : ℕ) → k < 248 → listedAt 31 k ≡ done (placeAt k)
+unfolding listedAt
+at-done k h = rw (lt-ltb k 248 h)
 
 pub back-within : (p : Place) → within 14 p ≡ true → within 14 (startingAt (sampleStart p - 1)) ≡ true
 back-within p w = let v = within-gives 14 p w in starts (sampleStart p - 1) (omega arith)
@@ -113,6 +121,11 @@ unfolding timingAt promptOf about lookAt seenIn windowOf promptAt powerIn row
 timing-seen samples message s = refl
 
 -- ---- the functions' steps
+
+pub own-looked : (symbols : List Float) (message : List ℕ) (p : Place) {x : Float} → x ≡ powerIn symbols p message
+    → record { place = p; power = x; offset = Same } ≡ looked symbols p message Same
+unfolding looked
+own-looked symbols message p e = rw e
 
 pub prompt-is : (symbols : List Float) (message : List ℕ) (p : Place) {q r : Place} {own early late a b : Prompt} → listed 31 p ≡ true
     → own ≡ looked symbols p message Same

@@ -9,6 +9,8 @@ use Prim.Native.Nat.{ℕ, _<_, _≤_}
 use borrow.Author.Tests.{eq-eqb, ne-eqb}
 use lib.Dec.{eqb, lit<}
 use lib.ListN.{length, getD}
+use Rattle.lists.specs.Told.{done}
+use Rattle.lists.proofs.Telling.{same-values, not-done}
 use Rattle.annex10.specs.Header.{longHeader}
 use Rattle.annex10.specs.Repair.{count, inside, repairedHead}
 use Rattle.annex10.specs.Any.{only}
@@ -18,7 +20,7 @@ use Rattle.annex10.specs.declared.Found.the-variants.{At, Nothing}
 use Rattle.annex10.proofs.Repairing.{not-there, head-is}
 use Rattle.mode_s.specs.declared.header.Validity.{Validity}
 use Rattle.mode_s.specs.declared.header.Validity.the-variants.{Valid, Invalid, Refused}
-use Rattle.mode_s.specs.Header.{headerOf}
+use Rattle.mode_s.specs.Header.{validityTold, headerOf}
 use Rattle.place.specs.declared.Slicer.{Slicer}
 use Rattle.streams.specs.Streams.{messageAt}
 use Rattle.streams.specs.Headers.{validityAt}
@@ -29,7 +31,7 @@ use Rattle.search.specs.declared.Tried.{Tried}
 use Rattle.search.specs.declared.Tried.the-variants.{Pass, Fail}
 use Rattle.search.specs.Kinds.{long}
 use Rattle.search.specs.Trials.{checked}
-use Rattle.trials.specs.Tries.{foundInside}
+use Rattle.receiver.specs.Inner.{foundInside}
 
 -- what a trial makes of a header check
 abbrev pub passIf : Validity → Reading → Tried
@@ -37,18 +39,19 @@ passIf Valid r = Pass r
 passIf Invalid r = Fail
 passIf (Refused n) r = Fail
 
-pass-cond : (b : Bool) (r : Reading) → passIf (cond b Valid Invalid) r ≡ cond b (Pass r) Fail
-pass-cond true r = refl
-pass-cond false r = refl
+passed : (v : Validity) (r : Reading) {b : Bool} → validityTold v ≡ done b → passIf v r ≡ cond b (Pass r) Fail
+passed Valid r e = rw (← same-values e)
+passed Invalid r e = rw (← same-values e)
+passed (Refused n) r e = absurd (not-done e)
 
 -- the check of a message's first byte is the check of the repaired message
-checked-head : (m : List ℕ) (number : ℕ) (slicer : Slicer) (ρ : Repairs) → length m ≡ 14 → inside 14 ρ ≡ true
-    → passIf (headerOf 14 longHeader (getD m 0 0) ρ) (record { trial = number; slicer = slicer; repairs = ρ }) ≡ checked long number slicer m (At ρ)
+checked-head : (m : List ℕ) (number : ℕ) (slicer : Slicer) (ρ : Repairs) (v : Validity) → length m ≡ 14 → inside 14 ρ ≡ true
+    → validityTold v ≡ headerOf 14 longHeader (getD m 0 0) ρ
+    → passIf v (record { trial = number; slicer = slicer; repairs = ρ }) ≡ checked long number slicer m (At ρ)
 unfolding headerOf checked long
-checked-head m number slicer ρ l e =
+checked-head m number slicer ρ v l e g =
     let h : 0 < length m = subst (λ (k : ℕ). 0 < k) (sym l) (lit< tt) in
-    rw (e, head-is m ρ h)
-    (pass-cond (longHeader (repairedHead (getD m 0 0) ρ)) (record { trial = number; slicer = slicer; repairs = ρ }))
+    passed v _ (rw e at g) ∙ rw (head-is m ρ h)
 
 -- what is found, if it is n positions
 pub only-hit : (f : Found) {ρ : Repairs} (n : ℕ) {k : ℕ} → f ≡ At ρ → k ≡ count ρ → n ≡ k → At ρ ≡ only f n
@@ -56,10 +59,6 @@ only-hit f n {k} e q h = rw e (rw (eq-eqb n _ (h ∙ q)))
 
 pub only-miss : (f : Found) {ρ : Repairs} (n : ℕ) {k : ℕ} → f ≡ At ρ → k ≡ count ρ → (n ≡ k → ⊥) → Nothing ≡ only f n
 only-miss f n {k} e q h = rw e (rw (ne-eqb n _ (λ z. h (z ∙ sym q))))
-
--- positions that are found lie inside
-pub inside-is : (f : Found) {ρ σ : Repairs} {b : Bool} → f ≡ At ρ → ρ ≡ σ → b ≡ inside 14 σ → b ≡ foundInside f
-inside-is f e q h = h ∙ sym (ap foundInside e ∙ ap (inside 14) q)
 
 -- some of what is found lies inside where all of it does
 only-inside : (o : Found) (n : ℕ) {ρ : Repairs} → foundInside o ≡ true → only o n ≡ At ρ → inside 14 ρ ≡ true
@@ -75,8 +74,8 @@ module _ (stream : List ℕ) (bit number : ℕ) (slicer : Slicer) (n : ℕ) (o :
   unfolding checked
   lookup-missed z = rw (← e, z)
 
-  pub lookup-found : {ρ : Repairs} {v : Validity} → length stream ≡ 18 → bit ≤ 32 → foundInside o ≡ true → f ≡ At ρ → v ≡ validityAt stream bit ρ
+  pub lookup-found : {ρ : Repairs} (v : Validity) → length stream ≡ 18 → bit ≤ 32 → foundInside o ≡ true → f ≡ At ρ → validityTold v ≡ validityAt stream bit ρ
       → passIf v (record { trial = number; slicer = slicer; repairs = ρ }) ≡ checked long number slicer (messageAt stream 14 bit) (only o n)
-  lookup-found {ρ} l b i z g =
+  lookup-found {ρ} v l b i z g =
       let q : only o n ≡ At ρ = sym e ∙ z in
-      rw (g, validity-done stream bit ρ l b, q) (checked-head (messageAt stream 14 bit) number slicer ρ (message-length stream 14 bit) (only-inside o n i q))
+      rw q (checked-head (messageAt stream 14 bit) number slicer ρ v (message-length stream 14 bit) (only-inside o n i q) (g ∙ validity-done stream bit ρ l b))

@@ -2,6 +2,7 @@
 --     in-turn         a trial counts only where none before it passed: the last holds the first that passed
 --     reading-by      with what clears the messages' own remainders the reading is that of the search
 --     none-read       where nothing clears either, it fails
+--     any-inside      what clears a remainder lies inside
 -- Assumes nothing.
 use mathlib.Core.Path.{_≡_, refl, sym, ap, _∙_}
 use mathlib.Core.Bool.{Bool, true, false, _&&_, not}
@@ -11,8 +12,9 @@ use lib.Dec.{leb, eqb}
 use Rattle.annex10.specs.Remainder.{remainder}
 use Rattle.annex10.specs.Any.{clearingAny, only}
 use Rattle.annex10.specs.declared.Found.{Found}
-use Rattle.annex10.specs.declared.Found.the-variants.{Nothing}
-use Rattle.annex10.proofs.Any.{only-any}
+use Rattle.annex10.specs.declared.Found.the-variants.{At, Nothing}
+use Rattle.annex10.proofs.Any.{any-found, only-any}
+use Rattle.annex10.proofs.Positions.{proper-inside}
 use Rattle.annex10.proofs.Unique.{apart-14}
 use Rattle.place.specs.declared.Slicer.the-variants.{Coherent, Noncoherent}
 use Rattle.search.specs.declared.Reading.{Reading}
@@ -20,7 +22,7 @@ use Rattle.search.specs.declared.Tried.{Tried}
 use Rattle.search.specs.declared.Tried.the-variants.{Pass, Fail}
 use Rattle.search.specs.Kinds.{Kind, long}
 use Rattle.search.specs.Trials.{checked, cleared, given, sixTrials, differ, trials, first, reading}
-use Rattle.trials.specs.Inner.{orTry}
+use Rattle.receiver.specs.Inner.{foundInside, orTry}
 
 one-by-one : (x1 x2 x3 x4 x5 x6 : Tried) {t1 t2 t3 t4 t5 t6 : Tried}
     → t1 ≡ orTry Fail x1 → t2 ≡ orTry t1 x2 → t3 ≡ orTry t2 x3 → t4 ≡ orTry t3 x4 → t5 ≡ orTry t4 x5 → t6 ≡ orTry t5 x6
@@ -93,3 +95,10 @@ module _ (level : ℕ) (coherent noncoherent : List ℕ) where
     where
       go : (a b e : Bool) → first (Fail ∷ Fail ∷ given a Fail ∷ given a (given e Fail) ∷ given b Fail ∷ given b (given e Fail) ∷ []) ≡ Fail
       go a b e = rw (given-fail a, given-fail b, given-fail e, given-fail a, given-fail b)
+
+pub any-inside : (r : ℕ) → foundInside (clearingAny 14 r) ≡ true
+any-inside r = go (clearingAny 14 r) refl
+  where
+    go : (o : Found) → clearingAny 14 r ≡ o → foundInside o ≡ true
+    go Nothing e = refl
+    go (At ρ) e = proper-inside 14 ρ (any-found 14 r e .proper)

@@ -1,16 +1,22 @@
 -- The surviving reading of a place, step by step as the code finds it.
 --     candidate-is              a reading with its message, power and cn0
 --     kept, gone                what the filter leaves
---     tried-pass, tried-fail    what the six trials answer, and that they are never refused
+--     filter-is                 the filter, for settings that are taken
+--     level-low                 their level is at most 2
 --     read-pass, read-fail      what survives
 -- Assumes nothing.
-use mathlib.Core.Path.{_≡_, sym, _∙_}
-use mathlib.Core.Bool.{Bool, true, false, cond}
+use mathlib.Core.Path.{_≡_, refl, _∙_}
+use mathlib.Core.Bool.{Bool, true, false, _&&_, cond}
 use mathlib.Core.List.{List}
 use mathlib.Core.Option.{none, some}
 use Prim.Native.Nat.{ℕ, _≤_, min}
 use native.Mathlib.Omega.{arith}
+use borrow.Author.Tests.{leb-true}
+use lib.Dec.{leb}
 use lib.Ieee.{Float}
+use lib.Ieee.Scale.{finite}
+use Rattle.lists.specs.Told.{done, refused}
+use Rattle.lists.proofs.Telling.{same-values, not-done}
 use Rattle.annex10.specs.declared.Found.{Found}
 use Rattle.annex10.specs.Repair.{inside, repaired}
 use Rattle.annex10.proofs.Positions.{proper-inside}
@@ -25,24 +31,41 @@ use Rattle.search.specs.declared.Reading.{Reading}
 use Rattle.search.specs.declared.Tried.{Tried}
 use Rattle.search.specs.declared.Tried.the-variants as T
 use Rattle.search.specs.declared.Candidate.{Candidate}
-use Rattle.search.specs.declared.Read.{Read}
+use Rattle.search.specs.declared.Survivor.{Survivor}
 use Rattle.search.specs.Trials.{reading}
 use Rattle.search.specs.Choice.{candidate, dropped, survivor, candidateAt}
 use Rattle.search.specs.Kinds.{long}
-use Rattle.search.specs.Answers.{readOf}
+use Rattle.search.specs.Answers.{settingsNumber, survivorOf}
 use Rattle.search.proofs.Passing.{sound}
-use Rattle.trials.specs.declared.six.TriedAt.{TriedAt}
-use Rattle.trials.specs.declared.six.TriedAt.the-variants.{Pass, Fail, Refused}
-use Rattle.trials.specs.Tries.{triedOf, tryWith}
-use Rattle.trials.proofs.Answering as Answering
-use Rattle.receiver.specs.Inner.{Streams, Told, seenAt}
+use Rattle.choice.specs.declared.filter.Filtered.{Filtered}
+use Rattle.choice.specs.declared.filter.Filtered.the-variants.{Is, Refused}
+use Rattle.choice.specs.Filtered.{filteredTold, filteredOf}
+use Rattle.receiver.specs.Inner.{seenAt}
+
+-- ---- the settings
+
+pub level-low : (s : Settings) → settingsNumber s ≡ 0 → s .level ≤ 2
+unfolding settingsNumber
+level-low s = go (leb (s .level) 2) (finite (s .threshold) && finite (s .second)) refl
+  where
+    go : (t u : Bool) → leb (s .level) 2 ≡ t → _≡_ {A = ℕ} (cond t (cond u 0 5) 4) 0 → s .level ≤ 2
+    go true u e z = leb-true _ _ e
+    go false u e z = absurd (omega arith)
 
 -- ---- the filter
 
-pub kept : (c : Candidate) {b : Bool} → b ≡ false → record { number = 0; candidate = c } ≡ readOf (cond b none (some c))
+pub filter-is : (s : Settings) (n : ℕ) (c : Candidate) {b : Bool} → settingsNumber s ≡ 0 → done b ≡ filteredOf s n c → b ≡ dropped s n c
+unfolding filteredOf
+filter-is s n c z e = same-values (rw z at e)
+
+pub filter-never : (s : Settings) (n : ℕ) (c : Candidate) {k : ℕ} → settingsNumber s ≡ 0 → refused k ≡ filteredOf s n c → ⊥
+unfolding filteredOf
+filter-never s n c z e = not-done (rw z at e)
+
+pub kept : (c : Candidate) {b : Bool} → b ≡ false → record { number = 0; candidate = c } ≡ survivorOf (cond b none (some c))
 kept c e = rw e
 
-pub gone : (c : Candidate) {b : Bool} {r : Read} → b ≡ true → r ≡ readOf none → r ≡ readOf (cond b none (some c))
+pub gone : (c : Candidate) {b : Bool} {r : Survivor} → b ≡ true → r ≡ survivorOf none → r ≡ survivorOf (cond b none (some c))
 gone c e f = rw e f
 
 module _ (samples row : List Float) (coherent noncoherent : List ℕ) (p : Place) where
@@ -61,22 +84,6 @@ module _ (samples row : List Float) (coherent noncoherent : List ℕ) (p : Place
     abbrev read : Tried
     read = reading long level (messageAt coherent 14 (p .bit)) (messageAt noncoherent 14 (p .bit))
 
-    tried-is : {c d : Found} {apart : Bool} {t : TriedAt} → Streams coherent noncoherent (p .bit) → level ≤ 2
-        → Told coherent noncoherent (p .bit) c d apart → t ≡ tryWith level coherent noncoherent (p .bit) c d apart → t ≡ triedOf 0 read
-    tried-is s l k et = et ∙ Answering.try-is level coherent noncoherent (p .bit) (s .first) (s .second) l (s .low) (k .first) (k .second) (k .differ)
-
-    pub tried-pass : {c d : Found} {apart : Bool} {t : TriedAt} {r : Reading} → Streams coherent noncoherent (p .bit) → level ≤ 2
-        → Told coherent noncoherent (p .bit) c d apart → t ≡ tryWith level coherent noncoherent (p .bit) c d apart → t ≡ Pass r → read ≡ T.Pass r
-    tried-pass s l k et er = Answering.tried-pass read (sym er ∙ tried-is s l k et)
-
-    pub tried-fail : {c d : Found} {apart : Bool} {t : TriedAt} → Streams coherent noncoherent (p .bit) → level ≤ 2
-        → Told coherent noncoherent (p .bit) c d apart → t ≡ tryWith level coherent noncoherent (p .bit) c d apart → t ≡ Fail → read ≡ T.Fail
-    tried-fail s l k et er = Answering.tried-fail read (sym er ∙ tried-is s l k et)
-
-    pub tried-never : {B : Type 0} {c d : Found} {apart : Bool} {k : ℕ} {t : TriedAt} → Streams coherent noncoherent (p .bit) → level ≤ 2
-        → Told coherent noncoherent (p .bit) c d apart → t ≡ tryWith level coherent noncoherent (p .bit) c d apart → t ≡ Refused k → B
-    tried-never s l k et er = absurd (Answering.tried-taken read (sym er ∙ tried-is s l k et))
-
     -- the positions of a reading lie in the message
     pub reading-inside : {r : Reading} → read ≡ T.Pass r → inside 14 (r .repairs) ≡ true
     unfolding long
@@ -88,12 +95,12 @@ module _ (samples row : List Float) (coherent noncoherent : List ℕ) (p : Place
     lowest : min (s .level) 2 ≡ s .level
     lowest = omega arith
 
-    pub read-pass : {r : Reading} {a : Candidate} {x : Read} → read (s .level) ≡ T.Pass r → a ≡ candidate (seenAt samples row coherent noncoherent) p r
-        → x ≡ readOf (cond (dropped s (differing (messageAt coherent 14 (p .bit)) (messageAt noncoherent 14 (p .bit)) 112) a) none (some a))
-        → x ≡ readOf (candidateAt long s (seenAt samples row coherent noncoherent) p)
+    pub read-pass : {r : Reading} {a : Candidate} {x : Survivor} → read (s .level) ≡ T.Pass r → a ≡ candidate (seenAt samples row coherent noncoherent) p r
+        → x ≡ survivorOf (cond (dropped s (differing (messageAt coherent 14 (p .bit)) (messageAt noncoherent 14 (p .bit)) 112) a) none (some a))
+        → x ≡ survivorOf (candidateAt long s (seenAt samples row coherent noncoherent) p)
     unfolding candidateAt survivor long seenAt
     read-pass e ea ex = rw (lowest, e) (ex ∙ rw ea)
 
-    pub read-fail : {x : Read} → read (s .level) ≡ T.Fail → x ≡ readOf none → x ≡ readOf (candidateAt long s (seenAt samples row coherent noncoherent) p)
+    pub read-fail : {x : Survivor} → read (s .level) ≡ T.Fail → x ≡ survivorOf none → x ≡ survivorOf (candidateAt long s (seenAt samples row coherent noncoherent) p)
     unfolding candidateAt survivor long seenAt
     read-fail e ex = rw (lowest, e) ex

@@ -1,7 +1,7 @@
 -- What private functions compute: no public contract cites it.
 -- Assumes nothing.
 use mathlib.Core.Path.{_≡_}
-use mathlib.Core.Bool.{Bool, not}
+use mathlib.Core.Bool.{Bool, true, not}
 use mathlib.Core.List.{List, [], _++_}
 use Prim.Native.Nat.{ℕ, zero, suc, _*_, _≤_}
 use lib.Dec.{eqb}
@@ -9,7 +9,9 @@ use lib.ListN.{length, take, drop}
 use lib.Ieee.{Float}
 use Rattle.annex10.specs.Remainder.{remainder}
 use Rattle.annex10.specs.Any.{clearingAny}
+use Rattle.annex10.specs.Repair.{inside}
 use Rattle.annex10.specs.declared.Found.{Found}
+use Rattle.annex10.specs.declared.Found.the-variants.{At, Nothing}
 use Rattle.place.specs.declared.Place.{Place}
 use Rattle.place.specs.declared.Slicer.{Slicer}
 use Rattle.place.specs.declared.Slicer.the-variants.{Coherent, Noncoherent}
@@ -23,12 +25,12 @@ use Rattle.rolling.specs.Rolling.{crcsOf}
 use Rattle.hash.specs.Codes.{codesOf}
 use Rattle.cn0.specs.Estimate.{cn0Of}
 use Rattle.timing.specs.declared.Offset.{Offset}
-use Rattle.timing.specs.declared.Moves.{Moves}
-use Rattle.timing.specs.declared.Moves.the-variants.{Back, On}
+use Rattle.search.specs.declared.Tried.{Tried}
+use Rattle.search.specs.declared.Tried.the-variants.{Pass, Fail}
 use Rattle.search.specs.declared.Prompt.{Prompt}
-use Rattle.search.specs.declared.Timed.{Timed}
+use Rattle.search.specs.declared.Arrival.{Arrival}
 use Rattle.search.specs.Window.{Window}
-use Rattle.search.specs.Timed.{timingAt, indexOf}
+use Rattle.search.specs.When.{timingAt, indexOf}
 use Rattle.kernels.specs.Slices.{streamsOf}
 
 -- both streams of a slicer for each of the first k rows of symbols
@@ -63,7 +65,7 @@ pub record Streams (coherent noncoherent : List ℕ) (bit : ℕ) : Type 0 where
   pub low : bit ≤ 32
 
 -- what clears the two messages there, and whether their remainders differ
-pub record Told (coherent noncoherent : List ℕ) (bit : ℕ) (c d : Found) (apart : Bool) : Type 0 where
+pub record Known (coherent noncoherent : List ℕ) (bit : ℕ) (c d : Found) (apart : Bool) : Type 0 where
   pub first : c ≡ clearingAny 14 (remainder (messageAt coherent 14 bit))
   pub second : d ≡ clearingAny 14 (remainder (messageAt noncoherent 14 bit))
   pub differ : apart ≡ not (eqb (remainder (messageAt coherent 14 bit)) (remainder (messageAt noncoherent 14 bit)))
@@ -78,13 +80,18 @@ seenAt samples row coherent noncoherent =
       cn0 = λ p message. cn0Of (powerOf 14 (symbolsFor 14 row p) message) (noiseOf 14 (samplesFor 14 samples p) message);
     }
 
--- how many samples are moved
-abbrev pub movesCount : Moves → ℕ
-movesCount (Back n) = n
-movesCount (On n) = n
-
 -- when a message came, from the symbols
-unfoldable pub timedIn : List Float → Place → List ℕ → ℕ → Timed
-timedIn symbols p message index =
+unfoldable pub arrivalIn : List Float → Place → List ℕ → ℕ → Arrival
+arrivalIn symbols p message index =
     let t = timingAt (seenIn symbols) message (sampleStart p) in
     record { number = 0; index = indexOf index (sampleStart p) (t .moves); fraction = t .fraction }
+
+-- positions that are found lie in a message of 14 bytes
+abbrev pub foundInside : Found → Bool
+foundInside Nothing = true
+foundInside (At ρ) = inside 14 ρ
+
+-- a trial counts only where none before it passed
+unfoldable pub orTry : Tried → Tried → Tried
+orTry (Pass r) t = Pass r
+orTry Fail t = t

@@ -1,25 +1,25 @@
 // The surviving reading of a place, from the row and the streams of its clock phase and symbol offset.
 use crate::message::message_at;
 use crate::powers::both_powers;
+use crate::six::try_six;
 use annex10::Found;
 use annex10::Repairs;
+use choice::best::repairs_of;
+use choice::filter::Filtered;
+use choice::filter::filter_out_decode_candidate;
 use cn0::estimate_cn0;
 use place::Place;
 use place::Slicer;
 use search::Candidate;
-use search::Read;
 use search::Reading;
 use search::Settings;
+use search::Survivor;
+use search::Tried;
 use streams::distance::Distance;
 use streams::distance::compute_hamming_distance;
-use trials::choice::repairs_of;
-use trials::filter::filter_out_decode_candidate;
-use trials::six::TriedAt;
-use trials::six::try_decode;
 ghost use mathlib.Core.Path.{_≡_};
 ghost use mathlib.Core.Bool.{true, cond};
 ghost use mathlib.Core.Option.{none, some};
-ghost use Prim.Native.Nat.{_≤_};
 ghost use lib.ListN.{length};
 ghost use Rattle.annex10.specs.Repair.{inside};
 ghost use Rattle.place.specs.Step.{within};
@@ -27,14 +27,14 @@ ghost use Rattle.streams.specs.Streams.{messageAt};
 ghost use Rattle.streams.specs.Distances.{differing};
 ghost use Rattle.search.specs.Choice.{candidate, dropped, candidateAt};
 ghost use Rattle.search.specs.Kinds.{long};
-ghost use Rattle.search.specs.Answers.{noCandidate, readOf};
-ghost use Rattle.receiver.specs.Inner.{Streams, Told, seenAt};
+ghost use Rattle.search.specs.Answers.{settingsNumber, noCandidate, survivorOf};
+ghost use Rattle.receiver.specs.Inner.{Streams, Known, seenAt};
 
 // No reading, and the number that says why.
-pub fn unread(number: u32) -> Read
+pub fn unread(number: u32) -> Survivor
     ensures { λ r. ⌜ r ≡ record { number = number; candidate = noCandidate } ⌝ }
 {
-    Read {
+    Survivor {
         number,
         candidate: Candidate {
             place: Place {
@@ -53,8 +53,8 @@ pub fn unread(number: u32) -> Read
 }
 
 // Nothing is held.
-pub fn nothing() -> Read
-    ensures { λ r. ⌜ r ≡ readOf none ⌝ }
+pub fn nothing() -> Survivor
+    ensures { λ r. ⌜ r ≡ survivorOf none ⌝ }
 {
     unread(1)
 }
@@ -99,22 +99,32 @@ fn candidate_of<'a>(
     }
 }
 
+fn is_dropped(s: Settings, differing: u32, c: Candidate) -> bool
+    requires { ⌜ settingsNumber s ≡ 0 ⌝ }
+    ensures { λ r. ⌜ r ≡ dropped s differing c ⌝ }
+{
+    match filter_out_decode_candidate(s, differing, c) {
+        Filtered::Is(gone) => gone,
+        Filtered::Refused(_) => false,
+    }
+}
+
 // The slicers' distance is asked for only where it can matter.
-fn survives(s: Settings, coherent: &[u8], noncoherent: &[u8], bit: usize, c: Candidate) -> Read
-    requires { ⌜ Streams (now coherent) (now noncoherent) bit ⌝ }
-    ensures { λ r. ⌜ r ≡ readOf (cond (dropped s (differing (messageAt (now (coherent .entry)) 14 bit) (messageAt (now (noncoherent .entry)) 14 bit) 112) c) none (some c)) ⌝ }
+fn survives(s: Settings, coherent: &[u8], noncoherent: &[u8], bit: usize, c: Candidate) -> Survivor
+    requires { ⌜ Streams (now coherent) (now noncoherent) bit × (settingsNumber s ≡ 0) ⌝ }
+    ensures { λ r. ⌜ r ≡ survivorOf (cond (dropped s (differing (messageAt (now (coherent .entry)) 14 bit) (messageAt (now (noncoherent .entry)) 14 bit) 112) c) none (some c)) ⌝ }
 {
     let repairs = c.repairs;
     if repairs_of(repairs) != 2 {
-        return Read {
+        return Survivor {
             number: 0,
             candidate: c,
         };
     }
-    if filter_out_decode_candidate(s, distance_at(coherent, noncoherent, bit), c) {
+    if is_dropped(s, distance_at(coherent, noncoherent, bit), c) {
         return nothing();
     }
-    Read {
+    Survivor {
         number: 0,
         candidate: c,
     }
@@ -131,21 +141,20 @@ pub fn read_streams<'a>(
     c: Found,
     d: Found,
     apart: bool,
-) -> Read
-    requires { ⌜ (length (now samples) ≡ 2310) × (length (now row) ≡ 576) × Streams (now coherent) (now noncoherent) (place .bit) × (within 14 place ≡ true) × (s .level ≤ 2) × Told (now coherent) (now noncoherent) (place .bit) c d apart ⌝ }
-    ensures { λ r. ⌜ r ≡ readOf (candidateAt long s (seenAt (now (samples .entry)) (now (row .entry)) (now (coherent .entry)) (now (noncoherent .entry))) place) ⌝ }
+) -> Survivor
+    requires { ⌜ (length (now samples) ≡ 2310) × (length (now row) ≡ 576) × Streams (now coherent) (now noncoherent) (place .bit) × (within 14 place ≡ true) × (settingsNumber s ≡ 0) × Known (now coherent) (now noncoherent) (place .bit) c d apart ⌝ }
+    ensures { λ r. ⌜ r ≡ survivorOf (candidateAt long s (seenAt (now (samples .entry)) (now (row .entry)) (now (coherent .entry)) (now (noncoherent .entry))) place) ⌝ }
 {
     let bit = place.bit;
     let level = s.level;
-    match try_decode(level, coherent, noncoherent, bit, c, d, apart) {
-        TriedAt::Pass(reading) => survives(
+    match try_six(level, coherent, noncoherent, bit, c, d, apart) {
+        Tried::Pass(reading) => survives(
             s,
             coherent,
             noncoherent,
             bit,
             candidate_of(samples, row, coherent, noncoherent, place, reading),
         ),
-        TriedAt::Fail => nothing(),
-        TriedAt::Refused(_) => nothing(),
+        Tried::Fail => nothing(),
     }
 }

@@ -4,6 +4,7 @@ use crate::refusals::best_number;
 use crate::refusals::decode_number;
 use crate::refusals::read_number;
 use crate::refusals::time_number;
+use crate::subsample::power_at;
 use crate::subsample::subsample;
 use crate::window::best_of;
 use crate::window::reading_at;
@@ -12,9 +13,9 @@ use annex10::Repairs;
 use place::Place;
 use place::Slicer;
 use search::Answer;
-use search::Read;
+use search::Arrival;
 use search::Settings;
-use search::Timed;
+use search::Survivor;
 use timing::Moves;
 ghost use mathlib.Core.Path.{_≡_};
 ghost use mathlib.Core.Bool.{true};
@@ -22,9 +23,10 @@ ghost use Prim.Native.Nat.{_≤_, _^_};
 ghost use lib.ListN.{length};
 ghost use Rattle.place.specs.Step.{sampleStart};
 ghost use Rattle.place.specs.All.{listed};
-ghost use Rattle.search.specs.Timed.{indexOf};
-ghost use Rattle.search.specs.Answers.{refusedAnswer, readAt, bestOf, timedAt, decodeOf};
-ghost use Rattle.receiver.specs.Inner.{timedIn, movesCount};
+ghost use Rattle.search.specs.When.{indexOf};
+ghost use Rattle.search.specs.Answers.{refusedAnswer, readAt, bestOf, arrivalAt, decodeOf};
+ghost use Rattle.timing.specs.Inner.{movesCount};
+ghost use Rattle.receiver.specs.Inner.{powerIn, arrivalIn};
 
 // Zeros, with a number.
 fn refused(number: u32) -> Answer
@@ -59,14 +61,14 @@ fn index_of(given: u64, place: Place, moves: Moves) -> u64
     }
 }
 
-// When a message at one of the places that are searched came.
-fn time_in(symbols: &[f32], place: Place, message: [u8; 14], index: u64) -> Timed
-    requires { ⌜ (length (now symbols) ≡ 2304) × (listed 31 place ≡ true) × (128 ≤ index) × (index ≤ 2 ^ 63) ⌝ }
-    ensures { λ r. ⌜ r ≡ timedIn (now (symbols .entry)) place message index ⌝ }
+// When a message at one of the places that are searched came, with its power there.
+fn time_in(symbols: &[f32], place: Place, message: [u8; 14], power: f32, index: u64) -> Arrival
+    requires { ⌜ (length (now symbols) ≡ 2304) × (listed 31 place ≡ true) × (128 ≤ index) × (index ≤ 2 ^ 63) × (power ≡ powerIn (now symbols) place message) ⌝ }
+    ensures { λ r. ⌜ r ≡ arrivalIn (now (symbols .entry)) place message index ⌝ }
 {
-    let t = subsample(symbols, place, message);
+    let t = subsample(symbols, place, message, power);
     let moves = t.moves;
-    Timed {
+    Arrival {
         number: 0,
         index: index_of(index, place, moves),
         fraction: t.fraction,
@@ -74,7 +76,7 @@ fn time_in(symbols: &[f32], place: Place, message: [u8; 14], index: u64) -> Time
 }
 
 // The surviving reading of one of the 248 places. Refused: 2, 4, 5, 7; number 1 where there is none.
-pub fn read_place(samples: &[f32], s: Settings, place: Place) -> Read
+pub fn read_place(samples: &[f32], s: Settings, place: Place) -> Survivor
     ensures { λ r. ⌜ r ≡ readAt (now (samples .entry)) s place ⌝ }
 {
     let number = read_number(samples, s, place);
@@ -86,7 +88,7 @@ pub fn read_place(samples: &[f32], s: Settings, place: Place) -> Read
 }
 
 // The best reading of all 248 places. Refused: 2, 4, 5; number 1 where there is none.
-pub fn find_best_decode_candidate(samples: &[f32], s: Settings) -> Read
+pub fn find_best_decode_candidate(samples: &[f32], s: Settings) -> Survivor
     ensures { λ r. ⌜ r ≡ bestOf (now (samples .entry)) s ⌝ }
 {
     let number = best_number(samples, s);
@@ -98,19 +100,20 @@ pub fn find_best_decode_candidate(samples: &[f32], s: Settings) -> Read
 }
 
 // When a message at one of the 248 places came. Refused: 2, 6, 7.
-pub fn time_message(samples: &[f32], place: Place, message: [u8; 14], index: u64) -> Timed
-    ensures { λ r. ⌜ r ≡ timedAt (now (samples .entry)) place message index ⌝ }
+pub fn time_message(samples: &[f32], place: Place, message: [u8; 14], index: u64) -> Arrival
+    ensures { λ r. ⌜ r ≡ arrivalAt (now (samples .entry)) place message index ⌝ }
 {
     let number = time_number(samples, place, index);
     if number != 0 {
-        return Timed {
+        return Arrival {
             number,
             index: 0,
             fraction: 0.0,
         };
     }
     let symbols = symbols_of(samples);
-    time_in(&symbols, place, message, index)
+    let power = power_at(&symbols, place, message);
+    time_in(&symbols, place, message, power, index)
 }
 
 // The message of a window, with all that is said of it. Refused: 2, 4, 5, 6; number 1 where there is none.
@@ -131,7 +134,7 @@ pub fn decode(samples: &[f32], s: Settings, index: u64) -> Answer
     let message = c.message;
     let repairs = c.repairs;
     let slicer = c.slicer;
-    let timed = time_in(&symbols, place, message, index);
+    let timed = time_in(&symbols, place, message, c.prompt, index);
     Answer {
         number: 0,
         place,

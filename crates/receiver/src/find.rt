@@ -1,20 +1,22 @@
 // The search over the 248 places.
 use crate::candidate::nothing;
 use crate::candidate::read_streams;
+use crate::codes::SECOND;
+use crate::codes::bit_errors_of;
 use crate::codes::says;
-use hash::bit_errors_of;
+use choice::best::choose;
 use place::Place;
-use search::Read;
+use place::Stepped;
 use search::Settings;
-use trials::choice::choose;
+use search::Survivor;
 ghost use mathlib.Core.Path.{_≡_};
 ghost use mathlib.Core.Bool.{true};
-ghost use Prim.Native.Nat.{_≤_};
-ghost use Rattle.place.specs.All.{listed};
+ghost use Prim.Native.Nat.{_<_};
+ghost use Rattle.place.specs.All.{listed, placeAt};
 ghost use Rattle.search.specs.Choice.{candidateAt, best};
 ghost use Rattle.search.specs.Kinds.{long};
 ghost use Rattle.search.specs.Seen.{windowOf};
-ghost use Rattle.search.specs.Answers.{readOf};
+ghost use Rattle.search.specs.Answers.{settingsNumber, survivorOf};
 ghost use Rattle.receiver.specs.Inner.{Ready};
 
 // The surviving reading of a place: its row of symbols and its two streams are lent, and what clears its messages is told.
@@ -27,9 +29,9 @@ pub fn read_at<'a>(
     codes: &[u32],
     s: Settings,
     place: Place,
-) -> Read
-    requires { ⌜ Ready (now samples) (now symbols) (now coherent) (now noncoherent) (now crcs) (now codes) × (listed 31 place ≡ true) × (s .level ≤ 2) ⌝ }
-    ensures { λ r. ⌜ r ≡ readOf (candidateAt long s (windowOf 14 (now (samples .entry))) place) ⌝ }
+) -> Survivor
+    requires { ⌜ Ready (now samples) (now symbols) (now coherent) (now noncoherent) (now crcs) (now codes) × (listed 31 place ≡ true) × (settingsNumber s ≡ 0) ⌝ }
+    ensures { λ r. ⌜ r ≡ survivorOf (candidateAt long s (windowOf 14 (now (samples .entry))) place) ⌝ }
 {
     let phase = place.phase;
     let symbol = place.symbol;
@@ -37,10 +39,10 @@ pub fn read_at<'a>(
     let to = from + 576;
     let at = 36 * phase + 18 * symbol;
     let end = at + 18;
-    let i = 8 * place.bit + 2 * phase + symbol;
+    let i = Place::PER_BIT * place.bit + Place::PER_PHASE * phase + symbol;
     let c = bit_errors_of(codes[i]);
-    let d = bit_errors_of(codes[256 + i]);
-    let apart = crcs[i] != crcs[256 + i];
+    let d = bit_errors_of(codes[SECOND + i]);
+    let apart = crcs[i] != crcs[SECOND + i];
     read_streams(
         samples,
         &symbols[from..to],
@@ -54,6 +56,17 @@ pub fn read_at<'a>(
     )
 }
 
+// One of the places that are searched, by its number.
+fn place_at(k: usize) -> Place
+    requires { ⌜ k < 248 ⌝ }
+    ensures { λ r. ⌜ r ≡ placeAt k ⌝ }
+{
+    match Place::at(k) {
+        Stepped::To(p) => p,
+        Stepped::Refused(_) => Place::FIRST,
+    }
+}
+
 // The best of all places. Most hold nothing: a look at their codes is enough.
 pub fn find<'a>(
     samples: &[f32],
@@ -63,15 +76,17 @@ pub fn find<'a>(
     crcs: &[u32],
     codes: &[u32],
     s: Settings,
-) -> Read
-    requires { ⌜ Ready (now samples) (now symbols) (now coherent) (now noncoherent) (now crcs) (now codes) × (s .level ≤ 2) ⌝ }
-    ensures { λ r. ⌜ r ≡ readOf (best long s (windowOf 14 (now (samples .entry)))) ⌝ }
+) -> Survivor
+    requires { ⌜ Ready (now samples) (now symbols) (now coherent) (now noncoherent) (now crcs) (now codes) × (settingsNumber s ≡ 0) ⌝ }
+    ensures { λ r. ⌜ r ≡ survivorOf (best long s (windowOf 14 (now (samples .entry)))) ⌝ }
 {
     let mut held = nothing();
     let mut k: usize = 0;
-    while k < 248 {
-        if says(codes[8 + k], codes[264 + k]) { // offset 0 is not searched
-            let place = Place::at(k);
+    while k < Place::COUNT {
+        // Bit offset 0 is not searched.
+        let i = Place::PER_BIT + k;
+        if says(codes[i], codes[SECOND + i]) {
+            let place = place_at(k);
             let new = read_at(
                 samples,
                 symbols,

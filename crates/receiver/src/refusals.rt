@@ -1,6 +1,6 @@
 // What the calls refuse: the lowest number that applies.
-use crate::settings::check_index;
-use crate::settings::check_settings;
+use choice::settings::check_index;
+use choice::settings::check_settings;
 use place::Place;
 use search::Settings;
 ghost use mathlib.Core.Path.{_≡_};

@@ -13,12 +13,12 @@ ghost use Prim.Native.Nat.{_+_, _-_, _<_};
 ghost use lib.ListN.{length};
 ghost use Rattle.place.specs.Step.{sampleStart, startingAt, within};
 ghost use Rattle.place.specs.All.{listed};
-ghost use Rattle.search.specs.Timed.{over, promptOf, about, timingAt};
+ghost use Rattle.search.specs.When.{over, promptOf, about, timingAt};
 ghost use Rattle.timing.specs.Subsample.{fractionOf, timingOf};
 ghost use Rattle.receiver.specs.Inner.{powerIn, looked, seenIn};
 
 // The power of a message at a place, from the symbols of all clock phases.
-fn power_at(symbols: &[f32], place: Place, message: [u8; 14]) -> f32
+pub fn power_at(symbols: &[f32], place: Place, message: [u8; 14]) -> f32
     requires { ⌜ (length (now symbols) ≡ 2304) × (within 14 place ≡ true) ⌝ }
     ensures { λ r. ⌜ r ≡ powerIn (now (symbols .entry)) place message ⌝ }
 {
@@ -70,12 +70,16 @@ fn take_over(held: Prompt, new: Prompt) -> Prompt
     held
 }
 
-// The place itself, the neighbour one clock phase earlier, then the one later.
-fn prompt_of(symbols: &[f32], place: Place, message: [u8; 14]) -> Prompt
-    requires { ⌜ (length (now symbols) ≡ 2304) × (listed 31 place ≡ true) ⌝ }
+// The place itself, whose power is known, the neighbour one clock phase earlier, then the one later.
+fn prompt_of(symbols: &[f32], place: Place, message: [u8; 14], power: f32) -> Prompt
+    requires { ⌜ (length (now symbols) ≡ 2304) × (listed 31 place ≡ true) × (power ≡ powerIn (now symbols) place message) ⌝ }
     ensures { λ r. ⌜ r ≡ promptOf (seenIn (now (symbols .entry))) message (sampleStart place) ⌝ }
 {
-    let own = look_at(symbols, place, message, Offset::Same);
+    let own = Prompt {
+        place,
+        power,
+        offset: Offset::Same,
+    };
     let early = look_at(symbols, earlier(place), message, Offset::Earlier);
     let late = look_at(symbols, later(place), message, Offset::Later);
     take_over(take_over(own, early), late)
@@ -93,10 +97,10 @@ fn time_about(symbols: &[f32], prompt: Prompt, message: [u8; 14]) -> Timing
     subsample_timing(parabolic_interpolation(before, prompt.power, after), offset)
 }
 
-// The moves and the fraction of a message at one of the places that are searched.
-pub fn subsample(symbols: &[f32], place: Place, message: [u8; 14]) -> Timing
-    requires { ⌜ (length (now symbols) ≡ 2304) × (listed 31 place ≡ true) ⌝ }
+// The moves and the fraction of a message at one of the places that are searched, with its power there.
+pub fn subsample(symbols: &[f32], place: Place, message: [u8; 14], power: f32) -> Timing
+    requires { ⌜ (length (now symbols) ≡ 2304) × (listed 31 place ≡ true) × (power ≡ powerIn (now symbols) place message) ⌝ }
     ensures { λ r. ⌜ r ≡ timingAt (seenIn (now (symbols .entry))) message (sampleStart place) ⌝ }
 {
-    time_about(symbols, prompt_of(symbols, place, message), message)
+    time_about(symbols, prompt_of(symbols, place, message, power), message)
 }

@@ -1,6 +1,6 @@
 // One trial: the positions that are found, and the header of the message that they repair.
-use crate::choice::repairs_of;
 use annex10::Found;
+use choice::best::repairs_of;
 use mode_s::header::Validity;
 use place::Slicer;
 use search::Reading;
@@ -14,8 +14,7 @@ ghost use Rattle.annex10.specs.Any.{only};
 ghost use Rattle.streams.specs.Streams.{messageAt};
 ghost use Rattle.search.specs.Kinds.{long};
 ghost use Rattle.search.specs.Trials.{checked, given};
-ghost use Rattle.trials.specs.Tries.{foundInside};
-ghost use Rattle.trials.specs.Inner.{orTry};
+ghost use Rattle.receiver.specs.Inner.{foundInside, orTry};
 
 // What is found, if it is n positions.
 fn only(found: Found, n: u32) -> Found

@@ -6,18 +6,17 @@ use crate::rows::demodulate_rows;
 use hash::bit_errors_from_crc24s;
 use kernels::symbols::accumulate_symbols;
 use place::Place;
-use search::Read;
 use search::Settings;
+use search::Survivor;
 ghost use mathlib.Core.Path.{_≡_};
 ghost use mathlib.Core.Bool.{true};
-ghost use Prim.Native.Nat.{_≤_};
 ghost use lib.ListN.{length};
 ghost use Rattle.kernels.specs.Symbols.{symbolsOf};
 ghost use Rattle.place.specs.All.{listed};
 ghost use Rattle.search.specs.Choice.{candidateAt, best};
 ghost use Rattle.search.specs.Kinds.{long};
 ghost use Rattle.search.specs.Seen.{windowOf};
-ghost use Rattle.search.specs.Answers.{readOf};
+ghost use Rattle.search.specs.Answers.{settingsNumber, survivorOf};
 
 // The symbols of a window.
 pub fn symbols_of(samples: &[f32]) -> [f32; 2304]
@@ -30,9 +29,9 @@ pub fn symbols_of(samples: &[f32]) -> [f32; 2304]
 }
 
 // The best of all places.
-pub fn best_of(samples: &[f32], symbols: &[f32], s: Settings) -> Read
-    requires { ⌜ (length (now samples) ≡ 2310) × (now symbols ≡ symbolsOf (now samples)) × (s .level ≤ 2) ⌝ }
-    ensures { λ r. ⌜ r ≡ readOf (best long s (windowOf 14 (now (samples .entry)))) ⌝ }
+pub fn best_of(samples: &[f32], symbols: &[f32], s: Settings) -> Survivor
+    requires { ⌜ (length (now samples) ≡ 2310) × (now symbols ≡ symbolsOf (now samples)) × (settingsNumber s ≡ 0) ⌝ }
+    ensures { λ r. ⌜ r ≡ survivorOf (best long s (windowOf 14 (now (samples .entry)))) ⌝ }
 {
     let mut coherent = [0u8; 144];
     let mut noncoherent = [0u8; 144];
@@ -45,9 +44,9 @@ pub fn best_of(samples: &[f32], symbols: &[f32], s: Settings) -> Read
 }
 
 // The surviving reading of one place.
-pub fn reading_at(samples: &[f32], symbols: &[f32], s: Settings, place: Place) -> Read
-    requires { ⌜ (length (now samples) ≡ 2310) × (now symbols ≡ symbolsOf (now samples)) × (listed 31 place ≡ true) × (s .level ≤ 2) ⌝ }
-    ensures { λ r. ⌜ r ≡ readOf (candidateAt long s (windowOf 14 (now (samples .entry))) place) ⌝ }
+pub fn reading_at(samples: &[f32], symbols: &[f32], s: Settings, place: Place) -> Survivor
+    requires { ⌜ (length (now samples) ≡ 2310) × (now symbols ≡ symbolsOf (now samples)) × (listed 31 place ≡ true) × (settingsNumber s ≡ 0) ⌝ }
+    ensures { λ r. ⌜ r ≡ survivorOf (candidateAt long s (windowOf 14 (now (samples .entry))) place) ⌝ }
 {
     let mut coherent = [0u8; 144];
     let mut noncoherent = [0u8; 144];

@@ -6,8 +6,9 @@ use mathlib.Core.Option.{Option, none, some}
 use Prim.Native.Nat.{ℕ, _^_}
 use lib.Dec.{eqb, leb}
 use lib.ListN.{length, replicate}
-use lib.Ieee.{Float, binary32, ofBits}
+use lib.Ieee.{Float}
 use lib.Ieee.Scale.{finite}
+use Rattle.floats.specs.Zero.{zeroF}
 use Rattle.annex10.specs.declared.Repairs.the-variants.{None}
 use Rattle.place.specs.declared.Place.{Place}
 use Rattle.place.specs.declared.Slicer.the-variants.{Coherent}
@@ -15,13 +16,13 @@ use Rattle.place.specs.Step.{sampleStart}
 use Rattle.place.specs.All.{listed}
 use Rattle.search.specs.declared.Settings.{Settings}
 use Rattle.search.specs.declared.Candidate.{Candidate}
-use Rattle.search.specs.declared.Read.{Read}
-use Rattle.search.specs.declared.Timed.{Timed}
+use Rattle.search.specs.declared.Survivor.{Survivor}
+use Rattle.search.specs.declared.Arrival.{Arrival}
 use Rattle.search.specs.declared.Answer.{Answer}
 use Rattle.search.specs.Choice.{candidateAt, best}
 use Rattle.search.specs.Kinds.{long}
 use Rattle.search.specs.Seen.{windowOf}
-use Rattle.search.specs.Timed.{timingAt, indexOf}
+use Rattle.search.specs.When.{timingAt, indexOf}
 
 -- ---- refusals: the lowest number that applies
 
@@ -47,9 +48,6 @@ placeNumber p = cond (listed 31 p) 0 7
 
 -- ---- zeros
 
-abbrev pub zero32 : Float
-zero32 = ofBits binary32 0
-
 abbrev pub nowhere : Place
 nowhere = record { bit = 0; phase = 0; symbol = 0 }
 
@@ -61,8 +59,8 @@ noCandidate =
       slicer = Coherent;
       repairs = None;
       message = replicate 14 0;
-      prompt = zero32;
-      cn0 = zero32;
+      prompt = zeroF;
+      cn0 = zeroF;
     }
 
 abbrev pub refusedAnswer : ℕ → Answer
@@ -73,40 +71,40 @@ refusedAnswer n =
       message = replicate 14 0;
       repairs = None;
       slicer = Coherent;
-      cn0 = zero32;
+      cn0 = zeroF;
       index = 0;
-      fraction = zero32;
+      fraction = zeroF;
     }
 
 -- ---- answers
 
 -- what is found, with its number: 1 where it is nothing
-abbrev pub readOf : Option Candidate → Read
-readOf none = record { number = 1; candidate = noCandidate }
-readOf (some c) = record { number = 0; candidate = c }
+abbrev pub survivorOf : Option Candidate → Survivor
+survivorOf none = record { number = 1; candidate = noCandidate }
+survivorOf (some c) = record { number = 0; candidate = c }
 
 -- the same with a refusal before it
-unfoldable pub readOr : ℕ → Option Candidate → Read
-readOr n o = cond (eqb n 0) (readOf o) (record { number = n; candidate = noCandidate })
+unfoldable pub survivorOr : ℕ → Option Candidate → Survivor
+survivorOr n o = cond (eqb n 0) (survivorOf o) (record { number = n; candidate = noCandidate })
 
 -- the surviving reading of a place
-unfoldable pub readAt : List Float → Settings → Place → Read
+unfoldable pub readAt : List Float → Settings → Place → Survivor
 readAt samples s p =
-    readOr (orNumber (windowNumber samples) (orNumber (settingsNumber s) (placeNumber p)))
+    survivorOr (orNumber (windowNumber samples) (orNumber (settingsNumber s) (placeNumber p)))
     (candidateAt long s (windowOf 14 samples) p)
 
 -- the best of all places
-unfoldable pub bestOf : List Float → Settings → Read
-bestOf samples s = readOr (orNumber (windowNumber samples) (settingsNumber s)) (best long s (windowOf 14 samples))
+unfoldable pub bestOf : List Float → Settings → Survivor
+bestOf samples s = survivorOr (orNumber (windowNumber samples) (settingsNumber s)) (best long s (windowOf 14 samples))
 
 -- when a message at a place came
-unfoldable pub timedAt : List Float → Place → List ℕ → ℕ → Timed
-timedAt samples p message index =
+unfoldable pub arrivalAt : List Float → Place → List ℕ → ℕ → Arrival
+arrivalAt samples p message index =
     let n = orNumber (windowNumber samples) (orNumber (indexNumber index) (placeNumber p)) in
     let t = timingAt (windowOf 14 samples) message (sampleStart p) in
     cond (eqb n 0)
     (record { number = 0; index = indexOf index (sampleStart p) (t .moves); fraction = t .fraction })
-    (record { number = n; index = 0; fraction = zero32 })
+    (record { number = n; index = 0; fraction = zeroF })
 
 -- a candidate with its time
 unfoldable pub answerOf : List Float → ℕ → Candidate → Answer

@@ -3,5 +3,5 @@ pub mod Window
 pub mod Trials
 pub mod Choice
 pub mod Seen
-pub mod Timed
+pub mod When
 pub mod Answers

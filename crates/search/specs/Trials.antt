@@ -2,10 +2,11 @@
 -- Assumes nothing.
 use mathlib.Core.Bool.{Bool, true, false, not, cond}
 use mathlib.Core.List.{List, [], _∷_}
-use Prim.Native.Nat.{ℕ}
+use Prim.Native.Nat.{ℕ, _+_, _*_}
 use lib.Dec.{leb, eqb}
 use Rattle.annex10.specs.Remainder.{remainder}
-use Rattle.annex10.specs.Repair.{repaired, clearing}
+use Rattle.annex10.specs.Repair.{count, repaired, clearing}
+use Rattle.annex10.specs.declared.Repairs.{Repairs}
 use Rattle.annex10.specs.declared.Found.{Found}
 use Rattle.annex10.specs.declared.Found.the-variants.{At, Nothing}
 use Rattle.place.specs.declared.Slicer.{Slicer}
@@ -13,6 +14,15 @@ use Rattle.place.specs.declared.Slicer.the-variants.{Coherent, Noncoherent}
 use Rattle.search.specs.declared.Tried.{Tried}
 use Rattle.search.specs.declared.Tried.the-variants.{Pass, Fail}
 use Rattle.search.specs.Kinds.{Kind, good}
+
+-- 0 for the coherent slicer, 1 for the other
+abbrev pub side : Slicer → ℕ
+side Coherent = 0
+side Noncoherent = 1
+
+-- the number of the trial that looks for so many positions in a slicer's bits: 1 to 6
+abbrev pub trialOf : Slicer → Repairs → ℕ
+trialOf slicer ρ = 1 + 2 * count ρ + side slicer
 
 -- the positions are repaired; the trial passes if the repaired header is good
 unfoldable pub checked : Kind → ℕ → Slicer → List ℕ → Found → Tried

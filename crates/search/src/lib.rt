@@ -37,7 +37,7 @@ pub struct Candidate {
 }
 
 // The surviving reading of a place, or of all places. Number 1 is none, other numbers are refusals, with zeros.
-pub struct Read {
+pub struct Survivor {
     pub number: u32,
     pub candidate: Candidate,
 }
@@ -50,7 +50,7 @@ pub struct Prompt {
 }
 
 // When a message came: the sample's index and the fraction of a sample.
-pub struct Timed {
+pub struct Arrival {
     pub number: u32,
     pub index: u64,
     pub fraction: f32,

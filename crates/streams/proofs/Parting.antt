@@ -14,7 +14,9 @@ use lib.ListN.{length, take, drop, replicate}
 use lib.Seq.{getD-take, getD-drop}
 use Rattle.lists.specs.Bits.{bitAt, value, packed}
 use Rattle.lists.proofs.Table.{tabulate-is, length-tabulate, getD-tabulate}
-use Rattle.parts.specs.Part.{partSize}
+use Rattle.lists.specs.Told.{Told, done, refused, tell}
+use Rattle.lists.proofs.Telling.{same-values, not-done}
+use Rattle.parts.specs.Part.{partSize, sizeAt}
 use Rattle.streams.specs.Streams.{messageAt, partNumber}
 use Rattle.streams.specs.Messages.{partMessage}
 
@@ -71,15 +73,32 @@ pub record PartTaken (part : List ℕ) (bit : ℕ) : Type 0 where
   pub size : length part ≡ partSize 14 bit
   pub low : bit ≤ 32
 
-tested : (part : List ℕ) (bit : ℕ) (t u : Bool) → eqb (length part) (partSize 14 bit) ≡ t → leb bit 32 ≡ u → _≡_ {A = ℕ} (cond t (cond u 0 7) 2) 0
+tested : (part : List ℕ) (bit : ℕ) (t u : Bool) → eqb (length part) (partSize 14 bit) ≡ t → leb bit 32 ≡ u → _≡_ {A = ℕ} (cond u (cond t 0 2) 7) 0
     → PartTaken part bit
 tested part bit true true a b e = record { size = eqb-true _ _ a; low = leb-true _ _ b }
-tested part bit true false a b e = absurd (omega arith)
-tested part bit false u a b e = absurd (omega arith)
+tested part bit false true a b e = absurd (omega arith)
+tested part bit t false a b e = absurd (omega arith)
 
 pub part-opened : (part : List ℕ) (bit : ℕ) {n : ℕ} → n ≡ partNumber part bit → n ≡ 0 → PartTaken part bit
 unfolding partNumber
 part-opened part bit e z = tested part bit (eqb (length part) (partSize 14 bit)) (leb bit 32) refl refl (sym e ∙ z)
+
+-- the number from the size of the part, or from its refusal
+pub sized : (part : List ℕ) (bit : ℕ) {size n : ℕ} → done size ≡ sizeAt 14 bit → n ≡ cond (eqb (length part) size) 0 2 → n ≡ partNumber part bit
+unfolding sizeAt partNumber
+sized part bit {size} {n} e h = go (leb bit 32) e
+  where
+    go : (b : Bool) → done size ≡ tell (cond b 0 7) (partSize 14 bit) → n ≡ cond b (cond (eqb (length part) (partSize 14 bit)) 0 2) 7
+    go true g = rw (← same-values g) h
+    go false g = absurd (not-done (sym g))
+
+pub behind : (part : List ℕ) (bit : ℕ) {n : ℕ} → refused n ≡ sizeAt 14 bit → n ≡ partNumber part bit
+unfolding sizeAt partNumber
+behind part bit {n} e = go (leb bit 32) e
+  where
+    go : (b : Bool) → refused n ≡ tell (cond b 0 7) (partSize 14 bit) → n ≡ cond b (cond (eqb (length part) (partSize 14 bit)) 0 2) 7
+    go true g = absurd (not-done g)
+    go false g = ap (λ (t : Told ℕ). t .0) g
 
 pub part-refused : (part : List ℕ) (bit : ℕ) {n : ℕ} → n ≡ partNumber part bit → (n ≡ 0 → ⊥)
     → record { number = n; bytes = replicate 14 0 } ≡ partMessage part bit

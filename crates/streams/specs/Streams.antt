@@ -20,10 +20,11 @@ streamNumber bytes offset =
     7)
     2
 
--- the number of a call at a part of a stream: as many bytes as the message lies in, else 2; an offset is 0 to 32, else 7
+-- the number of a call at a part of a stream: an offset is 0 to 32, else 7, whatever the part is, since none has a part for it; as many
+-- bytes as the message lies in, else 2
 unfoldable pub partNumber : List ℕ → ℕ → ℕ
 partNumber part offset =
-    cond (eqb (length part) (partSize 14 offset))
-    (cond (leb offset 32) 0
-    7)
-    2
+    cond (leb offset 32)
+    (cond (eqb (length part) (partSize 14 offset)) 0
+    2)
+    7

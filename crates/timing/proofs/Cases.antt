@@ -3,14 +3,12 @@
 use mathlib.Core.Path.{_≡_, refl}
 use mathlib.Core.Bool.{true, false}
 use mathlib.Core.List.{List, [], _∷_, map}
-use lib.IntN.{pos}
-use lib.Ieee.{Float, nan, inf, fin, add, sub, lt, le, isNan}
+use lib.Ieee.{Float, nan, inf, add, sub, lt, le, ofBits}
 use Rattle.timing.specs.declared.Offset.the-variants.{Earlier, Same, Later}
 use Rattle.timing.specs.declared.Moves.{Moves}
 use Rattle.timing.specs.declared.Moves.the-variants.{Back, On}
 use Rattle.timing.specs.declared.Timing.{Timing}
-use Rattle.timing.specs.declared.Settled.the-variants.{Refused}
-use Rattle.timing.specs.Subsample.{one, minus-one, halves, held, fractionOf, inRange, move, turn, rest, moved, timingOf, settledOf}
+use Rattle.timing.specs.Subsample.{one, minus-one, halves, held, fractionOf, move, turn, afterMoves, gained, timingOf}
 
 abbrev settles : Moves → Float → Timing
 settles m f = record { moves = m; fraction = f }
@@ -29,10 +27,5 @@ cases =
     ∷ []
 
 pub cases-hold : map (λ (c : Case). c .found) cases ≡ map (λ (c : Case). c .said) cases
-unfolding timingOf fractionOf held rest moved move turn add sub lt le
+unfolding timingOf fractionOf held afterMoves gained move turn add sub lt le ofBits
 cases-hold = refl
-
--- what timing cannot give is refused
-pub refused : (settledOf (fin false 1 (pos 1)) ≡ Refused 7) × (settledOf (inf true) ≡ Refused 7)
-unfolding settledOf inRange isNan lt le
-refused = (refl, refl)

@@ -8,13 +8,13 @@ use native.Mathlib.Omega.{arith}
 use lib.IntN.{ℤ, pos, negsuc, _+ℤ_, +ℤ-assoc, +ℤ-idr}
 use lib.Ieee.{Float, binary32, add, sub, lt, le}
 use borrow.Author.Tests.{le-ltb}
-use Rattle.timing.specs.Subsample.{one, halves, move, turn, rest, moved}
+use Rattle.timing.specs.Subsample.{one, halves, move, turn, afterMoves, gained}
 use Rattle.timing.proofs.Turning.{Rests, InRange, Span, todo, todo-le, todo-up, todo-down, span-up, span-down, rests-nan, move-up, move-down, turn-up, turn-down, rest-move, rest-rest, moved-move, moved-rest}
 
 pub record Kept (index : ℕ) (fraction : Float) (i : ℕ) (f : Float) : Type 0 where
   pub range : InRange f
-  pub same : rest f ≡ rest fraction
-  pub whole : pos i +ℤ moved f ≡ pos index +ℤ moved fraction
+  pub same : afterMoves f ≡ afterMoves fraction
+  pub whole : pos i +ℤ gained f ≡ pos index +ℤ gained fraction
   pub low : todo f ≤ i
   pub high : i + todo f ≤ index + 4
 
@@ -35,11 +35,11 @@ less-one : (i : ℕ) → 0 < i → pos (i - 1) ≡ pos i +ℤ negsuc 0
 less-one i h = sym (ap (λ (t : Bool). cond t (negsuc (1 - suc i)) (pos (i - 1))) (le-ltb i 1 h))
 
 -- a turn's share goes from the moves into the index
-share : (i j : ℕ) (f g : Float) → InRange f → g ≡ move f → pos j ≡ pos i +ℤ turn f → pos j +ℤ moved g ≡ pos i +ℤ moved f
-share i j f g r e h = ap (λ (z : ℤ). z +ℤ moved g) h ∙ ap (λ (x : Float). pos i +ℤ turn f +ℤ moved x) e ∙ +ℤ-assoc (pos i) (turn f) (moved (move f)) ∙ ap (λ (z : ℤ). pos i +ℤ z) (moved-move f r)
+share : (i j : ℕ) (f g : Float) → InRange f → g ≡ move f → pos j ≡ pos i +ℤ turn f → pos j +ℤ gained g ≡ pos i +ℤ gained f
+share i j f g r e h = ap (λ (z : ℤ). z +ℤ gained g) h ∙ ap (λ (x : Float). pos i +ℤ turn f +ℤ gained x) e ∙ +ℤ-assoc (pos i) (turn f) (gained (move f)) ∙ ap (λ (z : ℤ). pos i +ℤ z) (moved-move f r)
 
-rest-turn : (f g : Float) → InRange f → g ≡ move f → rest g ≡ rest f
-rest-turn f g r e = ap rest e ∙ rest-move f r
+rest-turn : (f g : Float) → InRange f → g ≡ move f → afterMoves g ≡ afterMoves f
+rest-turn f g r e = ap afterMoves e ∙ rest-move f r
 
 pub some-left : (f : Float) (i : ℕ) → InRange f → todo f ≤ i → lt f (halves true 1) ≡ true → 1 ≤ i
 some-left f i r l h =
@@ -78,5 +78,5 @@ down-keeps index fraction i f k n h =
       high = omega arith;
     }
 
-pub ends : (index : ℕ) (fraction : Float) (i : ℕ) (f : Float) → Kept index fraction i f → Rests f → (f ≡ rest fraction) × (pos i ≡ pos index +ℤ moved fraction)
+pub ends : (index : ℕ) (fraction : Float) (i : ℕ) (f : Float) → Kept index fraction i f → Rests f → (f ≡ afterMoves fraction) × (pos i ≡ pos index +ℤ gained fraction)
 ends index fraction i f k r = (sym (rest-rest f r) ∙ k .same, sym (+ℤ-idr (pos i)) ∙ ap (λ (z : ℤ). pos i +ℤ z) (sym (moved-rest f r)) ∙ k .whole)

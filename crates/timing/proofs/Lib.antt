@@ -5,4 +5,6 @@ mod Keeping
 pub mod Reach
 mod Reading
 pub mod Laws
+pub mod Moving
+pub mod Valued
 pub mod Cases

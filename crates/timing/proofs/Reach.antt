@@ -8,7 +8,7 @@ use native.Mathlib.Nat.{le-trans, mul-le-mul-right}
 use native.Mathlib.Omega.{arith}
 use lib.Dec.{ltb, lit<, lit≤}
 use lib.IntN.{ℤ}
-use lib.Ieee.{Float, nan, inf, fin, binary32, up, down, below, round, sum, add, sub, lt, le}
+use lib.Ieee.{Float, nan, inf, fin, binary32, up, down, below, round, sum, add, sub, lt, le, ofBits}
 use lib.Ieee.Fits.{down-pos, sub-fits}
 use borrow.Author.Tests.{ltb-false, le-ltb}
 use Rattle.floats.proofs.Compare.{lt-values, le-values}
@@ -104,6 +104,7 @@ less-half (fin true m e) s h =
 less-half (fin false m e) s h = subst Within (sym (opened false m e)) (less-plus (m * up e) (down e) (down-pos e) (h .1))
 
 offset-size : (o : Offset) → Size (offsetOf o) 2
+unfolding ofBits
 offset-size Earlier = (true, (refl, lit≤ tt))
 offset-size Same = (false, (refl, lit≤ tt))
 offset-size Later = (false, (refl, lit≤ tt))

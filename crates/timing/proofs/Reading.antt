@@ -1,6 +1,6 @@
 -- What the tests say of a fraction, and the moves as the code counts them.
 -- Assumes nothing.
-use mathlib.Core.Path.{_≡_, refl, sym, ap, _∙_, subst}
+use mathlib.Core.Path.{_≡_, refl, sym, _∙_, subst}
 use mathlib.Core.Logic.{inl, inr}
 use mathlib.Core.Bool.{Bool, true, false, not, _&&_, false≢true}
 use Prim.Native.Nat.{ℕ, suc, _+_, _-_, _<_, _≤_}
@@ -8,13 +8,12 @@ use native.Mathlib.Omega.{arith}
 use lib.Dec.{T, ltb, ltb→lt, nltb→le}
 use lib.IntN.{ℤ, pos, negsuc, _+ℤ_, pos-ne-negsuc}
 use lib.Ieee.{Float, nan, binary32, fits, lt, le, isNan}
-use Rattle.floats.proofs.Nan.{nan-is, le-number-r, lt-nan, nan-lt}
-use Rattle.floats.proofs.Compare.{le-not-lt}
+use Rattle.floats.proofs.Nan.{nan-is, le-number-r}
 use Rattle.floats.proofs.Integers.{sub-ge, sub-lt}
 use Rattle.timing.specs.declared.Moves.the-variants.{Back, On}
 use Rattle.timing.specs.declared.Timing.{Timing}
-use Rattle.timing.specs.declared.Settled.the-variants.{At, Refused}
-use Rattle.timing.specs.Subsample.{halves, inRange, rest, moved, movesOf, timingOf, settledOf}
+use Rattle.timing.specs.Subsample.{halves, afterMoves, gained, movesOf, timingOf}
+use Rattle.timing.specs.Inner.{inRange}
 use Rattle.timing.proofs.Turning.{InRange}
 
 -- ---- the range
@@ -48,48 +47,6 @@ pub range-is : (f : Float) → InRange f → inRange f ≡ true
 range-is f (inl e) = subst (λ (x : Float). inRange x ≡ true) (sym e) (nan-range nan (unfold isNan in refl))
 range-is f (inr s) = rw (number-range f (le-number-r (halves true 5) f (s .lo)), s .lo, s .hi)
 
--- ---- the tests of the code: below -5/2, above 3/2
-
-pub half-number : (s : Bool) (b : ℕ) → T (not (isNan (halves s b)))
-unfolding isNan
-half-number s b = tt
-
-number : (f : Float) → isNan f ≡ false → T (not (isNan f))
-number f e = rw e tt
-
-pub too-low : (f : Float) → lt f (halves true 5) ≡ true → inRange f ≡ false
-too-low f h = go (isNan f) refl
-  where
-    go : (b : Bool) → isNan f ≡ b → inRange f ≡ false
-    go true e = absurd (false≢true (sym (nan-lt (halves true 5)) ∙ ap (λ (x : Float). lt x (halves true 5)) (sym (nan-is f e)) ∙ h))
-    go false e = rw (number-range f e, le-not-lt (halves true 5) f (half-number true 5) (number f e), h)
-
-pub too-high : (f : Float) → lt (halves false 3) f ≡ true → inRange f ≡ false
-too-high f h = go (isNan f) refl
-  where
-    no : (b : Bool) → b && false ≡ false
-    no true = refl
-    no false = refl
-
-    go : (b : Bool) → isNan f ≡ b → inRange f ≡ false
-    go true e = absurd (false≢true (sym (lt-nan (halves false 3)) ∙ ap (λ (x : Float). lt (halves false 3) x) (sym (nan-is f e)) ∙ h))
-    go false e = rw (number-range f e, le-not-lt f (halves false 3) (number f e) (half-number false 3), h) (no (le (halves true 5) f))
-
-pub in-between : (f : Float) → lt f (halves true 5) ≡ false → lt (halves false 3) f ≡ false → inRange f ≡ true
-in-between f h g = go (isNan f) refl
-  where
-    go : (b : Bool) → isNan f ≡ b → inRange f ≡ true
-    go true e = nan-range f e
-    go false e = rw (number-range f e, le-not-lt (halves true 5) f (half-number true 5) (number f e), le-not-lt f (halves false 3) (number f e) (half-number false 3), h, g)
-
-pub settled-refused : (f : Float) → inRange f ≡ false → Refused 7 ≡ settledOf f
-unfolding settledOf
-settled-refused f e = rw e
-
-pub settled-at : (f : Float) {t : Timing} → inRange f ≡ true → t ≡ timingOf f → At t ≡ settledOf f
-unfolding settledOf
-settled-at f e h = rw (e, h)
-
 -- ---- an index that started at 4
 
 same-pos : (m n : ℕ) → pos m ≡ pos n → m ≡ n
@@ -121,11 +78,11 @@ went-on i (negsuc n) h e = go (ltb 4 (suc n)) (ltb→lt 4 (suc n)) (nltb→le 4 
         let k = same-pos i (4 - suc n) (e ∙ sub-ge 4 (suc n) l) in
         absurd (omega arith)
 
-module _ (f : Float) {i : ℕ} {g : Float} (e : g ≡ rest f) (h : pos i ≡ pos 4 +ℤ moved f) where
+module _ (f : Float) {i : ℕ} {g : Float} (e : g ≡ afterMoves f) (h : pos i ≡ pos 4 +ℤ gained f) where
   pub timing-back : i < 4 → _≡_ {A = Timing} (record { moves = Back (4 - i); fraction = g }) (timingOf f)
   unfolding timingOf
-  timing-back l = rw (went-back i (moved f) l h, e)
+  timing-back l = rw (went-back i (gained f) l h, e)
 
   pub timing-on : 4 ≤ i → _≡_ {A = Timing} (record { moves = On (i - 4); fraction = g }) (timingOf f)
   unfolding timingOf
-  timing-on l = rw (went-on i (moved f) l h, e)
+  timing-on l = rw (went-on i (gained f) l h, e)

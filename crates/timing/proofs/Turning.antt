@@ -13,7 +13,7 @@ use lib.Ieee.Exact.{HasValue}
 use borrow.Author.Tests.{lt-ltb, le-ltb, ltb-true, ltb-false, not-true}
 use Rattle.timing.proofs.Halves.{lt-half, half-le, le-half, own}
 use Rattle.timing.proofs.Exactly.{Known, Up, Down, up-exact, down-exact}
-use Rattle.timing.specs.Subsample.{one, halves, move, turn, rest, moved}
+use Rattle.timing.specs.Subsample.{one, halves, move, turn, afterMoves, gained}
 
 -- nothing is left to move
 abbrev pub Rests : Float → Type 0
@@ -298,22 +298,22 @@ todo-down x s h =
     (lt y (halves true 3)) (lt y (halves true 1)) (le (halves false 1) y) (le (halves false 3) y) h (u .far) (u .back) (u .again) (u .far-again)
 
 -- ---- a turn changes neither where the fraction comes to rest nor the whole of the moves
-pub rest-rest : (x : Float) → Rests x → rest x ≡ x
-unfolding rest
+pub rest-rest : (x : Float) → Rests x → afterMoves x ≡ x
+unfolding afterMoves
 rest-rest x r = ap move (move-rest x r) ∙ move-rest x r
 
-pub rest-rests : (x : Float) → InRange x → Rests (rest x)
-unfolding rest
+pub rest-rests : (x : Float) → InRange x → Rests (afterMoves x)
+unfolding afterMoves
 rest-rests x r = rests-after-two x r
 
-pub rest-move : (x : Float) → InRange x → rest (move x) ≡ rest x
-unfolding rest
+pub rest-move : (x : Float) → InRange x → afterMoves (move x) ≡ afterMoves x
+unfolding afterMoves
 rest-move x r = move-rest (move (move x)) (rests-after-two x r)
 
-pub moved-rest : (x : Float) → Rests x → moved x ≡ pos 0
-unfolding moved
+pub moved-rest : (x : Float) → Rests x → gained x ≡ pos 0
+unfolding gained
 moved-rest x r = ap (λ (z : ℤ). z +ℤ turn (move x)) (turn-rest x r) ∙ ap (λ (y : Float). pos 0 +ℤ turn y) (move-rest x r) ∙ ap (λ (z : ℤ). pos 0 +ℤ z) (turn-rest x r)
 
-pub moved-move : (x : Float) → InRange x → turn x +ℤ moved (move x) ≡ moved x
-unfolding moved
+pub moved-move : (x : Float) → InRange x → turn x +ℤ gained (move x) ≡ gained x
+unfolding gained
 moved-move x r = ap (λ (z : ℤ). turn x +ℤ (turn (move x) +ℤ z)) (turn-rest (move (move x)) (rests-after-two x r)) ∙ ap (λ (z : ℤ). turn x +ℤ z) (+ℤ-idr (turn (move x)))

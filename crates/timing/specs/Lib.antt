@@ -1,1 +1,3 @@
 pub mod Subsample
+pub mod Exact
+pub mod Inner

@@ -1,16 +1,15 @@
 -- The fraction of a sample, and the moves of whole samples between it and the index.
 -- Assumes nothing.
-use mathlib.Core.Bool.{Bool, true, false, _&&_, _||_, cond}
+use mathlib.Core.Bool.{Bool, true, false, cond}
 use Prim.Native.Nat.{ℕ, suc}
-use lib.IntN.{ℤ, pos, negsuc, _+ℤ_, _-ℤ_}
-use lib.Ieee.{Float, fin, binary32, add, sub, lt, le, isNan}
+use lib.IntN.{ℤ, pos, negsuc, _+ℤ_}
+use lib.Ieee.{Float, fin, binary32, add, sub, lt, le}
+use Rattle.floats.specs.Zero.{zeroF}
 use Rattle.timing.specs.declared.Offset.{Offset}
 use Rattle.timing.specs.declared.Offset.the-variants.{Earlier, Same, Later}
 use Rattle.timing.specs.declared.Moves.{Moves}
 use Rattle.timing.specs.declared.Moves.the-variants.{Back, On}
 use Rattle.timing.specs.declared.Timing.{Timing}
-use Rattle.timing.specs.declared.Settled.{Settled}
-use Rattle.timing.specs.declared.Settled.the-variants.{At, Refused}
 
 abbrev pub one : Float
 one = fin false 1 (pos 0)
@@ -29,47 +28,34 @@ held x = cond (lt x minus-one) minus-one (cond (lt one x) one x)
 -- the offset as a float
 abbrev pub offsetOf : Offset → Float
 offsetOf Earlier = minus-one
-offsetOf Same = fin false 0 (pos 0)
+offsetOf Same = zeroF
 offsetOf Later = one
 
 -- the parabola's value, held to [-1, 1], plus the offset, minus 0.5
 unfoldable pub fractionOf : Float → Offset → Float
 fractionOf parabola offset = sub binary32 (add binary32 (held parabola) (offsetOf offset)) (halves false 1)
 
--- NaN, or from -2.5 to 1.5: all that timing can give
-unfoldable pub inRange : Float → Bool
-inRange f = isNan f || (le (halves true 5) f && le f (halves false 3))
-
--- one sample, where one has to move: below -0.5 it goes from the index to the fraction, from 0.5 on the other way
+-- a round of the while: below -0.5 one sample goes from the index to the fraction, from 0.5 on the other way; else nothing moves
 unfoldable pub move : Float → Float
 move f = cond (lt f (halves true 1)) (add binary32 f one) (cond (le (halves false 1) f) (sub binary32 f one) f)
 
--- what the index gains by it
+-- what the index gains in a round
 unfoldable pub turn : Float → ℤ
 turn f = cond (lt f (halves true 1)) (negsuc 0) (cond (le (halves false 1) f) (pos 1) (pos 0))
 
--- the fraction when nothing is left to move: two moves are enough for all that is in range
-unfoldable pub rest : Float → Float
-rest f = move (move f)
+-- the fraction after the while: two rounds, after which nothing is left to move of all that timing can give
+unfoldable pub afterMoves : Float → Float
+afterMoves f = move (move f)
 
--- what the index gains in all
-unfoldable pub moved : Float → ℤ
-moved f = turn f +ℤ turn (move f)
+-- what the index gains in the while
+unfoldable pub gained : Float → ℤ
+gained f = turn f +ℤ turn (move f)
 
 -- an integer as moves
 abbrev pub movesOf : ℤ → Moves
 movesOf (pos n) = On n
 movesOf (negsuc n) = Back (suc n)
 
--- moves as an integer: what is added to the index
-abbrev pub gainOf : Moves → ℤ
-gainOf (On n) = pos n
-gainOf (Back n) = pos 0 -ℤ pos n
-
 -- the moves and the fraction that is left
 unfoldable pub timingOf : Float → Timing
-timingOf f = record { moves = movesOf (moved f); fraction = rest f }
-
--- the same of any fraction: 7 where timing cannot give it
-unfoldable pub settledOf : Float → Settled
-settledOf f = cond (inRange f) (At (timingOf f)) (Refused 7)
+timingOf f = record { moves = movesOf (gained f); fraction = afterMoves f }

@@ -3,7 +3,8 @@ mod turns;
 
 ghost use mathlib.Core.Path.{_≡_};
 ghost use mathlib.Core.Bool.{true};
-ghost use Rattle.timing.specs.Subsample.{held, offsetOf, fractionOf, inRange, timingOf, settledOf};
+ghost use Rattle.timing.specs.Subsample.{held, offsetOf, fractionOf, timingOf};
+ghost use Rattle.timing.specs.Inner.{inRange};
 
 // Which place is the prompt: the reading's own, or a neighbour with more power.
 pub enum Offset {
@@ -23,14 +24,8 @@ pub struct Timing {
     pub fraction: f32,
 }
 
-// The timing, or the refusal's number.
-pub enum Settled {
-    At(Timing),
-    Refused(u32),
-}
-
 // Held to [-1, 1], as the Rust's `clamp(-1.0, 1.0)`: a NaN stays.
-pub fn hold(x: f32) -> f32
+fn hold(x: f32) -> f32
     ensures { λ r. ⌜ r ≡ held x ⌝ }
 {
     if x < -1.0 {
@@ -53,7 +48,7 @@ fn offset_of(offset: Offset) -> f32
 }
 
 // The powers are equal when the edge lies halfway between two samples, hence the half.
-pub fn fraction_of(parabola: f32, offset: Offset) -> f32
+fn fraction_of(parabola: f32, offset: Offset) -> f32
     ensures { λ r. ⌜ r ≡ fractionOf parabola offset ⌝ }
 {
     (hold(parabola) + offset_of(offset)) - 0.5
@@ -78,19 +73,6 @@ fn rested(fraction: f32) -> Timing
             fraction: rest,
         }
     }
-}
-
-// A fraction that timing cannot give is refused.
-pub fn settle(fraction: f32) -> Settled
-    ensures { λ r. ⌜ r ≡ settledOf fraction ⌝ }
-{
-    if fraction < -2.5 {
-        return Settled::Refused(7);
-    }
-    if fraction > 1.5 {
-        return Settled::Refused(7);
-    }
-    Settled::At(rested(fraction))
 }
 
 // From the parabola's value about the prompt to the moves and the fraction that is left.

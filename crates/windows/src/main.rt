@@ -1,21 +1,74 @@
-// Reads settings, indices and windows from standard input, and writes a listing. docs/WINDOWS.md has both formats.
-mod input;
-
-use input::MALFORMED;
-use input::Word;
-use input::at_end;
-use input::read_indices;
-use input::read_samples;
-use input::read_settings;
-use input::read_word;
+// Reads standard input in the parts that are wanted, hands each over and writes what is to be printed. What that is stands in
+// `feed`; docs/WINDOWS.md has both formats.
+use feed::Fed;
+use feed::State;
+use feed::parts::failed;
+use feed::parts::feed;
+use feed::parts::start;
+use feed::parts::wanted;
+use libc::STDIN_FILENO;
 use libc::STDOUT_FILENO;
 use listing::Text;
-use listing::lines::head_line;
-use listing::lines::refused_line;
-use listing::lines::window_line;
-use receiver::decode::decode;
-use search::Answer;
-use search::Settings;
+ghost use mathlib.Core.Path.{_≡_};
+ghost use mathlib.Core.Logic.{_≢_};
+ghost use Prim.Native.Nat.{_≤_, _<_};
+ghost use lib.ListN.{length};
+ghost use Rattle.feed.specs.Machine.{wantedOf};
+ghost use Rattle.feed.specs.Statement.{leftOf};
+ghost use Rattle.windows.specs.Within.{Within};
+
+// What a read brought: so many bytes, fewer than were asked for only at the end of the input, or nothing because it failed.
+enum Came {
+    Bytes(usize),
+    Failure,
+}
+
+// Reads until so many bytes are there, the input ends or a read fails.
+fn read_part(space: &mut [u8], wanted: usize) -> Came
+    requires { ⌜ wanted ≤ length (now space) ⌝ }
+    ensures { λ r. ⌜ Within r (length (now (space .exit))) ⌝ }
+{
+    let mut n: usize = 0;
+    while n < wanted {
+        let got = libc::read(STDIN_FILENO, &mut space[n..wanted]);
+        if got < 0 {
+            return Came::Failure;
+        }
+        let more = io::count(got, &space[n..wanted]);
+        if more == 0 {
+            return Came::Bytes(n);
+        }
+        n += more;
+    }
+    Came::Bytes(n)
+}
+
+fn hand_over(state: State, space: &[u8], n: usize) -> Fed
+    requires { ⌜ n ≤ length (now space) ⌝ }
+    ensures { λ r. ⌜ (wantedOf state ≢ 0 → leftOf (r .state) < leftOf state) ⌝ }
+{
+    feed(state, &space[..n])
+}
+
+// Reads as many bytes as are wanted, and hands them over.
+fn step_in(state: State, space: &mut [u8]) -> Fed
+    requires { ⌜ length (now space) ≡ 9240 ⌝ }
+    ensures { λ r. ⌜ (wantedOf state ≢ 0 → leftOf (r .state) < leftOf state) ⌝ }
+{
+    let came = read_part(space, wanted(state));
+    match came {
+        Came::Bytes(n) => hand_over(state, space, n),
+        Came::Failure => failed(state),
+    }
+}
+
+// No part is longer than the samples of a window.
+fn step(state: State) -> Fed
+    ensures { λ r. ⌜ (wantedOf state ≢ 0 → leftOf (r .state) < leftOf state) ⌝ }
+{
+    let mut space = [0u8; 9240];
+    step_in(state, &mut space)
+}
 
 // The first bytes. A line is never longer than the text that holds it.
 fn write_first(bytes: &[u8], length: usize) {
@@ -29,71 +82,13 @@ fn print(text: Text) {
     write_first(&bytes, text.length);
 }
 
-fn decoded(samples: &[f32; 2310], s: Settings, index: u64) -> Answer {
-    decode(samples, s, index)
-}
-
-// Reads window k, and says what was found in it.
-fn list_window(k: usize, s: Settings, index: u64) -> u32 {
-    let mut samples = [0.0f32; 2310];
-    if !read_samples(&mut samples) {
-        return MALFORMED;
-    }
-    print(window_line(k as u64, decoded(&samples, s, index)));
-    0
-}
-
-// One window after the other: the samples of one are held at a time.
-fn list_windows(n: usize, s: Settings, at: [u64; 64]) -> u32 {
-    let mut k = 0;
-    while k < n {
-        if k >= 64 {
-            return MALFORMED;
-        }
-        let number = list_window(k, s, at[k]);
-        if number != 0 {
-            return number;
-        }
-        k += 1;
-    }
-    0
-}
-
-// The whole input in its order, each part checked as it is met. Answers the number of the refusal that ends it, or 0.
-fn list_all() -> u32 {
-    let given = read_settings();
-    if given.number != 0 {
-        return given.number;
-    }
-    let Word::Is(n) = read_word() else {
-        return MALFORMED;
-    };
-    if n > 64 {
-        return MALFORMED;
-    }
-    let indices = read_indices(n as usize);
-    if indices.number != 0 {
-        return indices.number;
-    }
-    let Word::Is(numbers) = read_word() else {
-        return MALFORMED;
-    };
-    if numbers != 2310 * n {
-        return MALFORMED;
-    }
-    print(head_line(n as u64));
-    let s = given.settings;
-    let at = indices.at;
-    let number = list_windows(n as usize, s, at);
-    if number != 0 {
-        return number;
-    }
-    if at_end() { 0 } else { MALFORMED }
-}
-
 fn main() {
-    let number = list_all();
-    if number != 0 {
-        print(refused_line(number as u64));
+    let mut state = start();
+    while wanted(state) > 0 {
+        let fed = step(state);
+        let text = fed.text;
+        print(text);
+        let next = fed.state;
+        state = next;
     }
 }

@@ -1,17 +1,23 @@
 -- `parts::part_size` meets its contract.
 -- Assumes nothing.
-use borrow.Author.Tests.{eq-eqb, ne-eqb}
-use Rattle.parts.specs.Part.{partSize}
+use mathlib.Core.Path.{_∙_, ap}
+use borrow.Author.Tests.{le-leb, lt-leb}
+use Rattle.lists.specs.Told.{done}
+use Rattle.parts.specs.Part.{sizeAt}
+use borrow.Author.Needs.{needs}
 use Rattle.parts.proofs.part_size.Statement.{statement}
 use Rattle.parts.proofs.part_size.Tie as tie
 
 returns : tie.Need-returns
-unfolding partSize
-returns c = rw (eq-eqb _ _ (c .if1 .taken))
+unfolding sizeAt
+returns c = rw (lt-leb _ _ (c .if1 .taken))
+
+bytes-from-requires : tie.Need-bytes-from-requires
+bytes-from-requires c κs = search needs
 
 returns-2 : tie.Need-returns-2
-unfolding partSize
-returns-2 c = rw (ne-eqb _ _ (c .if1 .left))
+unfolding sizeAt
+returns-2 c = ap done (c .bytes-from .ensures) ∙ rw (le-leb _ _ (c .before .if1 .left))
 
 pub part-size-spec : {M : Type 1} → statement M
-part-size-spec = tie.close (tie.spec returns returns-2)
+part-size-spec = tie.close (tie.spec returns bytes-from-requires returns-2)

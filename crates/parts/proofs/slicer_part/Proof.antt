@@ -17,13 +17,13 @@ slice-aggregate-result c = search needs
 returns : tie.Need-returns
 returns c = sym (part-none 14 _ _ _ _ (λ e. c .before .if1 .taken (c .before .before .slicer-refusal .ensures ∙ e)))
 
-part-size-requires : tie.Need-part-size-requires
-part-size-requires c κs = search needs
+bytes-from-requires : tie.Need-bytes-from-requires
+bytes-from-requires c κs = search needs
 
 add-to : tie.Need-add-to
 add-to c =
     let t = streams-taken 14 _ _ _ (sym (c .before .before .slicer-refusal .ensures) ∙ c .before .if1 .left) in
-    omega (arith, c .part-size .ensures, part-fits 14 _ (omega arith) (t .offset))
+    omega (arith, c .bytes-from .ensures, part-fits 14 _ (omega arith) (t .offset))
 
 enum-told : tie.Need-enum-told
 enum-told c = search needs
@@ -37,7 +37,7 @@ part-result-start c = search needs
 part-result-end : tie.Need-part-result-end
 part-result-end c =
     let t = streams-taken 14 _ _ _ (sym (c .before .before .before .before .slicer-refusal .ensures) ∙ c .before .before .before .if1 .left) in
-    omega (arith, t .first, t .second, c .before .before .part-size .ensures, part-fits 14 _ (omega arith) (t .offset))
+    omega (arith, t .first, t .second, c .before .before .bytes-from .ensures, part-fits 14 _ (omega arith) (t .offset))
 
 enum-told-2 : tie.Need-enum-told-2
 enum-told-2 c = search needs
@@ -51,17 +51,17 @@ part-result-start-2 c = search needs
 part-result-end-2 : tie.Need-part-result-end-2
 part-result-end-2 c =
     let t = streams-taken 14 _ _ _ (sym (c .before .before .before .before .slicer-refusal .ensures) ∙ c .before .before .before .if1 .left) in
-    omega (arith, t .first, t .second, c .before .before .part-size .ensures, part-fits 14 _ (omega arith) (t .offset))
+    omega (arith, t .first, t .second, c .before .before .bytes-from .ensures, part-fits 14 _ (omega arith) (t .offset))
 
 returns-2 : tie.Need-returns-2
 returns-2 c =
     rw (part-done 14 _ _ _ _ (sym (c .before .before .before .before .before .slicer-refusal .ensures) ∙ c .before .before .before .before .if1 .left))
-    (simp (c .before .enum-told .given .1, add-sub-cancel-left, c .before .before .before .part-size .ensures))
+    (simp (c .before .enum-told .given .1, add-sub-cancel-left, c .before .before .before .bytes-from .ensures))
 
 returns-3 : tie.Need-returns-3
 returns-3 c =
     rw (part-done 14 _ _ _ _ (sym (c .before .before .before .before .before .slicer-refusal .ensures) ∙ c .before .before .before .before .if1 .left))
-    (simp (c .before .enum-told2 .given .1, add-sub-cancel-left, c .before .before .before .part-size .ensures))
+    (simp (c .before .enum-told2 .given .1, add-sub-cancel-left, c .before .before .before .bytes-from .ensures))
 
 pub slicer-part-spec : {M : Type 1} → statement M
 slicer-part-spec =
@@ -70,7 +70,7 @@ slicer-part-spec =
     slicer-refusal-requires
     slice-aggregate-result
     returns
-    part-size-requires
+    bytes-from-requires
     add-to
     enum-told
     sub-result

@@ -1,9 +1,9 @@
 -- `receiver::candidate::distance_at` meets its contract: the call is never refused.
 -- Assumes nothing.
-use mathlib.Core.Path.{_≡_, _∙_}
-use native.Mathlib.Omega.{arith}
-use Prim.Native.Nat.{ℕ}
+use mathlib.Core.Path.{sym, ap, _∙_}
+use Rattle.streams.specs.Distances.{distanceTold}
 use Rattle.streams.proofs.Comparing.{distance-done}
+use Rattle.lists.proofs.Telling.{same-values, not-done}
 use borrow.Author.Needs.{needs}
 use Rattle.receiver.proofs.candidate.distance_at.Statement.{statement}
 use Rattle.receiver.proofs.candidate.distance_at.Tie as tie
@@ -20,17 +20,12 @@ enum-told c = search needs
 returns : tie.Need-returns
 returns c =
     let s = c .before .before .before .before .before .before in
-    let e = c .before .before .before .compute-hamming-distance .ensures ∙ distance-done (s .args .coherent .now) (s .args .noncoherent .now) (s .args .bit) (s .pre .first) (s .pre .second) (s .pre .low) in
-    let f = c .before .d .given .1 in
-    cc
+    same-values (ap distanceTold (sym (c .before .d .given .1)) ∙ c .before .before .before .compute-hamming-distance .ensures ∙ distance-done (s .args .coherent .now) (s .args .noncoherent .now) (s .args .bit) (s .pre .first) (s .pre .second) (s .pre .low))
 
 returns-2 : tie.Need-returns-2
 returns-2 c =
     let s = c .before .before .before .before .before in
-    let e = c .before .before .compute-hamming-distance .ensures ∙ distance-done (s .args .coherent .now) (s .args .noncoherent .now) (s .args .bit) (s .pre .first) (s .pre .second) (s .pre .low) in
-    let f = c .enum-told .given .1 in
-    let z : _≡_ {A = ℕ} 0 1 = cc in
-    absurd (omega arith)
+    absurd (not-done (ap distanceTold (sym (c .enum-told .given .1)) ∙ c .before .before .compute-hamming-distance .ensures ∙ distance-done (s .args .coherent .now) (s .args .noncoherent .now) (s .args .bit) (s .pre .first) (s .pre .second) (s .pre .low)))
 
 pub distance-at-spec : {M : Type 1} → statement M
 distance-at-spec =

@@ -1,7 +1,7 @@
 -- `receiver::candidate::survives` meets its contract: without two repairs nothing is dropped, whatever the distance.
 -- Assumes nothing.
 use mathlib.Core.Path.{sym, _∙_}
-use Rattle.trials.proofs.Filtering.{not-two}
+use Rattle.choice.proofs.Filtering.{not-two}
 use Rattle.receiver.proofs.Weighing.{kept, gone}
 use borrow.Author.Needs.{needs}
 use Rattle.receiver.proofs.candidate.survives.Statement.{statement}
@@ -16,17 +16,17 @@ returns c = kept (c .before .before .before .before .args .c) (sym (not-two (c .
 distance-at-requires : tie.Need-distance-at-requires
 distance-at-requires c κs = search needs
 
-filter-out-decode-candidate-requires : tie.Need-filter-out-decode-candidate-requires
-filter-out-decode-candidate-requires c κs = search needs
+is-dropped-requires : tie.Need-is-dropped-requires
+is-dropped-requires c κs = search needs
 
 nothing-requires : tie.Need-nothing-requires
 nothing-requires c κs = search needs
 
 returns-2 : tie.Need-returns-2
-returns-2 c = gone (c .before .before .before .before .before .before .before .before .args .c) (rw (c .before .before .before .distance-at .ensures) at (sym (c .before .before .filter-out-decode-candidate .ensures)) ∙ c .before .if2 .taken) (c .nothing .ensures)
+returns-2 c = gone (c .before .before .before .before .before .before .before .before .args .c) (rw (c .before .before .before .distance-at .ensures) at (sym (c .before .before .is-dropped .ensures)) ∙ c .before .if2 .taken) (c .nothing .ensures)
 
 returns-3 : tie.Need-returns-3
-returns-3 c = kept (c .before .before .before .before .before .before .before .args .c) (rw (c .before .before .distance-at .ensures) at (sym (c .before .filter-out-decode-candidate .ensures)) ∙ c .if2 .left)
+returns-3 c = kept (c .before .before .before .before .before .before .before .args .c) (rw (c .before .before .distance-at .ensures) at (sym (c .before .is-dropped .ensures)) ∙ c .if2 .left)
 
 pub survives-spec : {M : Type 1} → statement M
 survives-spec =
@@ -35,7 +35,7 @@ survives-spec =
     repairs-of-requires
     returns
     distance-at-requires
-    filter-out-decode-candidate-requires
+    is-dropped-requires
     nothing-requires
     returns-2
     returns-3)

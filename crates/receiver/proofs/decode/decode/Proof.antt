@@ -2,11 +2,11 @@
 -- Assumes nothing.
 use mathlib.Core.List.{List}
 use lib.Ieee.{Float}
-use mathlib.Core.Path.{ap, _∙_}
+use mathlib.Core.Path.{sym, ap, _∙_}
 use lib.ListN.{length}
 use Rattle.kernels.proofs.Summing.{symbols-length}
-use Rattle.receiver.specs.Inner.{timedIn}
-use Rattle.receiver.proofs.Deciding.{decode-taken, read-some, read-none, best-listed, decode-refused, decode-none, decode-done}
+use Rattle.receiver.specs.Inner.{powerIn, arrivalIn}
+use Rattle.receiver.proofs.Deciding.{decode-taken, read-some, read-none, best-listed, best-power, decode-refused, decode-none, decode-done}
 use borrow.Author.Needs.{needs}
 use Rattle.receiver.proofs.decode.decode.Statement.{statement}
 use Rattle.receiver.proofs.decode.decode.Tie as tie
@@ -27,7 +27,7 @@ slice-aggregate-best-of : tie.Need-slice-aggregate-best-of
 slice-aggregate-best-of c = search needs
 
 best-of-requires : tie.Need-best-of-requires
-best-of-requires c κs = let a = c .before .before .before .before .before .args in let t = decode-taken (a .samples .now) (c .before .before .if1 .left) (a .s) (a .index) (c .before .before .before .decode-number .ensures) in (t .0 .whole, c .before .symbols-of .ensures, t .0 .level)
+best-of-requires c κs = let a = c .before .before .before .before .before .args in let t = decode-taken (a .samples .now) (c .before .before .if1 .left) (a .s) (a .index) (c .before .before .before .decode-number .ensures) in (t .0 .whole, c .before .symbols-of .ensures, t .0 .settings)
 
 refused-requires-2 : tie.Need-refused-requires-2
 refused-requires-2 c κs = search needs
@@ -42,7 +42,15 @@ time-in-requires : tie.Need-time-in-requires
 time-in-requires c κs =
     let a = c .before .before .before .before .before .before .before .before .before .before .before .before .args in
     let t = decode-taken (a .samples .now) (c .before .before .before .before .before .before .before .before .before .if1 .left) (a .s) (a .index) (c .before .before .before .before .before .before .before .before .before .before .decode-number .ensures) in
-    (ap length (c .before .before .before .before .before .before .before .before .symbols-of .ensures) ∙ symbols-length (a .samples .now), best-listed _ _ (read-some _ (c .before .before .before .before .before .before .best-of .ensures) (c .before .before .before .before .if2 .left)), t .1, t .2)
+    let f = c .before .before .before .before .before .before .best-of .result .candidate in
+    let e = c .before .before .before .before .before .before .before .before .symbols-of .ensures in
+    let w = read-some _ (c .before .before .before .before .before .before .best-of .ensures) (c .before .before .before .before .if2 .left) in (
+      ap length e ∙ symbols-length (a .samples .now),
+      best-listed _ _ w,
+      t .1,
+      t .2,
+      best-power (a .s) (a .samples .now) w ∙ ap (λ (x : List Float). powerIn x (f .place) (f .message)) (sym e),
+    )
 
 returns-3 : tie.Need-returns-3
 returns-3 c =
@@ -50,7 +58,7 @@ returns-3 c =
     let b = c .before .before .before .before .before .before .before .best-of in
     let f = b .result .candidate in
     decode-done (a .samples .now) (a .s) (a .index) f (c .before .before .before .before .before .before .before .before .before .before .before .decode-number .ensures) (c .before .before .before .before .before .before .before .before .before .before .if1 .left) (read-some _ (b .ensures) (c .before .before .before .before .before .if2 .left))
-    (c .time-in .ensures ∙ ap (λ (x : List Float). timedIn x (f .place) (f .message) (a .index)) (c .before .before .before .before .before .before .before .before .before .symbols-of .ensures))
+    (c .time-in .ensures ∙ ap (λ (x : List Float). arrivalIn x (f .place) (f .message) (a .index)) (c .before .before .before .before .before .before .before .before .before .symbols-of .ensures))
 
 pub decode-spec : {M : Type 1} → statement M
 decode-spec =

@@ -21,7 +21,7 @@ slice-aggregate-best-of : tie.Need-slice-aggregate-best-of
 slice-aggregate-best-of c = search needs
 
 best-of-requires : tie.Need-best-of-requires
-best-of-requires c κs = let a = c .before .before .before .before .before .args in let t = best-taken (a .samples .now) (c .before .before .if1 .left) (a .s) (c .before .before .before .best-number .ensures) in (t .whole, c .before .symbols-of .ensures, t .level)
+best-of-requires c κs = let a = c .before .before .before .before .before .args in let t = best-taken (a .samples .now) (c .before .before .if1 .left) (a .s) (c .before .before .before .best-number .ensures) in (t .whole, c .before .symbols-of .ensures, t .settings)
 
 returns-2 : tie.Need-returns-2
 returns-2 c = let a = c .before .before .before .before .before .before .args in best-done (a .samples .now) (a .s) (c .before .before .before .before .best-number .ensures) (c .before .before .before .if1 .left) (c .best-of .ensures)

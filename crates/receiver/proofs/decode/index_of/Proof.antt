@@ -5,8 +5,8 @@ use native.Mathlib.Omega.{arith}
 use Prim.Native.Nat.{_≤_}
 use Rattle.place.proofs.Within.{listed-gives}
 use Rattle.timing.specs.declared.Moves.{Moves}
-use Rattle.receiver.specs.Inner.{movesCount}
-use Rattle.search.specs.Timed.{indexOf}
+use Rattle.timing.specs.Inner.{movesCount}
+use Rattle.search.specs.When.{indexOf}
 use borrow.Author.Needs.{needs}
 use Rattle.receiver.proofs.decode.index_of.Statement.{statement}
 use Rattle.receiver.proofs.decode.index_of.Tie as tie

@@ -21,7 +21,7 @@ slice-aggregate-reading-at : tie.Need-slice-aggregate-reading-at
 slice-aggregate-reading-at c = search needs
 
 reading-at-requires : tie.Need-reading-at-requires
-reading-at-requires c κs = let a = c .before .before .before .before .before .args in let t = read-taken (a .samples .now) (c .before .before .if1 .left) (a .s) (a .place) (c .before .before .before .read-number .ensures) in (t .0 .whole, c .before .symbols-of .ensures, t .1, t .0 .level)
+reading-at-requires c κs = let a = c .before .before .before .before .before .args in let t = read-taken (a .samples .now) (c .before .before .if1 .left) (a .s) (a .place) (c .before .before .before .read-number .ensures) in (t .0 .whole, c .before .symbols-of .ensures, t .1, t .0 .settings)
 
 returns-2 : tie.Need-returns-2
 returns-2 c = let a = c .before .before .before .before .before .before .args in read-done (a .samples .now) (a .s) (a .place) (c .before .before .before .before .read-number .ensures) (c .before .before .before .if1 .left) (c .reading-at .ensures)

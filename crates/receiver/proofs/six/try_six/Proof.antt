@@ -1,10 +1,11 @@
--- `trials::six::try_six` meets its contract: six trials one after the other are the reading.
+-- `receiver::six::try_six` meets its contract: six trials one after the other are the reading.
 -- Assumes nothing.
-use Rattle.trials.proofs.Turns.{in-turn}
-use Rattle.trials.specs.Tries.{readingBy}
+use mathlib.Core.Path.{ap, _∙_}
+use Rattle.receiver.specs.Inner.{foundInside}
+use Rattle.receiver.proofs.Turns.{in-turn, reading-by, any-inside}
 use borrow.Author.Needs.{needs}
-use Rattle.trials.proofs.six.try_six.Statement.{statement}
-use Rattle.trials.proofs.six.try_six.Tie as tie
+use Rattle.receiver.proofs.six.try_six.Statement.{statement}
+use Rattle.receiver.proofs.six.try_six.Tie as tie
 
 both-requires : tie.Need-both-requires
 both-requires c κs = search needs
@@ -13,26 +14,26 @@ both-requires-2 : tie.Need-both-requires-2
 both-requires-2 c κs = search needs
 
 then-try-requires : tie.Need-then-try-requires
-then-try-requires c κs = search needs
+then-try-requires c κs = let s = c .before .before .before .before in (s .pre .0 .first, s .pre .0 .low, ap foundInside (s .pre .1 .first) ∙ any-inside _)
 
 then-try-requires-2 : tie.Need-then-try-requires-2
-then-try-requires-2 c κs = search needs
+then-try-requires-2 c κs = let s = c .before .before .before .before .before in (s .pre .0 .second, s .pre .0 .low, ap foundInside (s .pre .1 .second) ∙ any-inside _)
 
 then-try-requires-3 : tie.Need-then-try-requires-3
-then-try-requires-3 c κs = search needs
+then-try-requires-3 c κs = let s = c .before .before .before .before .before .before in (s .pre .0 .first, s .pre .0 .low, ap foundInside (s .pre .1 .first) ∙ any-inside _)
 
 then-try-requires-4 : tie.Need-then-try-requires-4
-then-try-requires-4 c κs = search needs
+then-try-requires-4 c κs = let s = c .before .before .before .before .before .before .before in (s .pre .0 .second, s .pre .0 .low, ap foundInside (s .pre .1 .second) ∙ any-inside _)
 
 then-try-requires-5 : tie.Need-then-try-requires-5
-then-try-requires-5 c κs = search needs
+then-try-requires-5 c κs = let s = c .before .before .before .before .before .before .before .before in (s .pre .0 .first, s .pre .0 .low, ap foundInside (s .pre .1 .first) ∙ any-inside _)
 
 then-try-requires-6 : tie.Need-then-try-requires-6
-then-try-requires-6 c κs = search needs
+then-try-requires-6 c κs = let s = c .before .before .before .before .before .before .before .before .before in (s .pre .0 .second, s .pre .0 .low, ap foundInside (s .pre .1 .second) ∙ any-inside _)
 
 returns : tie.Need-returns
-unfolding readingBy
 returns c =
+    let k = c .before .before .before .before .before .before .before .before .before .before .pre .1 in
     in-turn _ _ _ _ _ _ _
     (c .before .before .before .before .before .before .before .both .ensures)
     (c .before .before .before .before .before .before .both2 .ensures)
@@ -42,6 +43,7 @@ returns c =
     (c .before .before .then-try4 .ensures)
     (c .before .then-try5 .ensures)
     (c .then-try6 .ensures)
+    ∙ reading-by _ _ _ (k .first) (k .second) (k .differ)
 
 pub try-six-spec : {M : Type 1} → statement M
 try-six-spec =

@@ -7,7 +7,7 @@ use Prim.Native.Nat.{ℕ, _-_}
 use mathlib.Core.Bool.{true}
 use Rattle.place.specs.declared.Place.{Place}
 use Rattle.place.specs.Step.{within}
-use Rattle.receiver.proofs.Prompting.{stepped-back, back-within}
+use Rattle.receiver.proofs.Prompting.{earlier-is, back-within}
 use borrow.Author.Needs.{needs}
 use Rattle.receiver.proofs.subsample.earlier.Statement.{statement}
 use Rattle.receiver.proofs.subsample.earlier.Tie as tie
@@ -24,7 +24,7 @@ enum-told c = search needs
 returns : tie.Need-returns
 returns c =
     let s = c .before .before .before .before in
-    let e = stepped-back (s .args .place) (s .pre .0) (s .pre .1) (c .before .before .before .earlier .ensures) in
+    let e = earlier-is (s .args .place) (c .before .before .before .earlier .result) (s .pre .0) (s .pre .1) (c .before .before .before .earlier .ensures) in
     let f = c .before .p .given .1 in
     let q : c .before .p .given .0 .0 ≡ startingAt (sampleStart (s .args .place) - 1) = cc in
     (q, subst (λ (p : Place). within 14 p ≡ true) (sym q) (back-within (s .args .place) (s .pre .0)))
@@ -32,7 +32,7 @@ returns c =
 returns-2 : tie.Need-returns-2
 returns-2 c =
     let s = c .before .before .before in
-    let e = stepped-back (s .args .place) (s .pre .0) (s .pre .1) (c .before .before .earlier .ensures) in
+    let e = earlier-is (s .args .place) (c .before .before .earlier .result) (s .pre .0) (s .pre .1) (c .before .before .earlier .ensures) in
     let f = c .enum-told .given .1 in
     let z : _≡_ {A = ℕ} 0 1 = cc in
     absurd (omega arith)

@@ -1,7 +1,7 @@
 -- `receiver::subsample::subsample` meets its contract: the prompt is the place or a neighbour, so it has neighbours itself.
 -- Assumes nothing.
 use mathlib.Core.Path.{sym, _∙_, subst}
-use Rattle.search.specs.Timed.{timingAt}
+use Rattle.search.specs.When.{timingAt}
 use Rattle.place.specs.Step.{sampleStart}
 use Rattle.receiver.specs.Inner.{seenIn}
 use Rattle.receiver.proofs.Prompting.{room, around, inner, Inner-place}

@@ -1,6 +1,6 @@
 -- `receiver::subsample::take_over` meets its contract.
 -- Assumes nothing.
-use Rattle.search.specs.Timed.{over}
+use Rattle.search.specs.When.{over}
 use Rattle.receiver.proofs.subsample.take_over.Statement.{statement}
 use Rattle.receiver.proofs.subsample.take_over.Tie as tie
 

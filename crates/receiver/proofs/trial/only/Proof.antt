@@ -1,8 +1,8 @@
--- `trials::trial::only` meets its contract. Assumes nothing.
-use Rattle.trials.proofs.Trying.{only-hit, only-miss}
+-- `receiver::trial::only` meets its contract. Assumes nothing.
+use Rattle.receiver.proofs.Trying.{only-hit, only-miss}
 use borrow.Author.Needs.{needs}
-use Rattle.trials.proofs.trial.only.Statement.{statement}
-use Rattle.trials.proofs.trial.only.Tie as tie
+use Rattle.receiver.proofs.trial.only.Statement.{statement}
+use Rattle.receiver.proofs.trial.only.Tie as tie
 
 enum-known-found : tie.Need-enum-known-found
 enum-known-found c = search needs

@@ -1,12 +1,12 @@
--- `trials::trial::then_try` meets its contract: what passed before stands; a trial that is not made fails; else it is made.
+-- `receiver::trial::then_try` meets its contract: what passed before stands; a trial that is not made fails; else it is made.
 -- Assumes nothing.
 use borrow.Author.Tests.{not-true, not-false}
 use Rattle.search.specs.Trials.{given}
-use Rattle.trials.specs.Inner.{orTry}
-use Rattle.trials.proofs.Turns.{stays}
+use Rattle.receiver.specs.Inner.{orTry}
+use Rattle.receiver.proofs.Turns.{stays}
 use borrow.Author.Needs.{needs}
-use Rattle.trials.proofs.trial.then_try.Statement.{statement}
-use Rattle.trials.proofs.trial.then_try.Tie as tie
+use Rattle.receiver.proofs.trial.then_try.Statement.{statement}
+use Rattle.receiver.proofs.trial.then_try.Tie as tie
 
 enum-told : tie.Need-enum-told
 enum-told c = search needs

@@ -1,10 +1,12 @@
--- `trials::trial::try_one` meets its contract: nothing is found, or the trial is what the header check says.
+-- `receiver::trial::try_one` meets its contract: nothing is found, or the trial is what the header check says.
 -- Assumes nothing.
-use mathlib.Core.Path.{sym, _∙_}
-use Rattle.trials.proofs.Trying.{lookup-missed, lookup-found}
+use mathlib.Core.Path.{sym, ap, _∙_}
+use Rattle.mode_s.specs.Header.{validityTold}
+use Rattle.mode_s.specs.declared.header.Validity.the-variants.{Valid, Invalid, Refused}
+use Rattle.receiver.proofs.Trying.{lookup-missed, lookup-found}
 use borrow.Author.Needs.{needs}
-use Rattle.trials.proofs.trial.try_one.Statement.{statement}
-use Rattle.trials.proofs.trial.try_one.Tie as tie
+use Rattle.receiver.proofs.trial.try_one.Statement.{statement}
+use Rattle.receiver.proofs.trial.try_one.Tie as tie
 
 only-requires : tie.Need-only-requires
 only-requires c κs = search needs
@@ -34,19 +36,22 @@ returns-2 : tie.Need-returns-2
 returns-2 c =
     let found = c .before .before .before .before in
     let (size, low, inside) = c .before .before .before .before .before .before .before .before .pre in
-    lookup-found _ _ _ _ _ (c .before .before .before .before .before .before .before .before .args .found) (c .before .before .before .before .before .before .only .ensures) size low inside (found .repairs .given .1) (sym (c .enum-told2 .given .1) ∙ c .before .before .df-is-valid-extended-squitter .ensures)
+    lookup-found _ _ _ _ _ (c .before .before .before .before .before .before .before .before .args .found) (c .before .before .before .before .before .before .only .ensures) Valid size low inside (found .repairs .given .1)
+    (ap validityTold (sym (c .enum-told2 .given .1)) ∙ c .before .before .df-is-valid-extended-squitter .ensures)
 
 returns-3 : tie.Need-returns-3
 returns-3 c =
     let found = c .before .before .before .before in
     let (size, low, inside) = c .before .before .before .before .before .before .before .before .pre in
-    lookup-found _ _ _ _ _ (c .before .before .before .before .before .before .before .before .args .found) (c .before .before .before .before .before .before .only .ensures) size low inside (found .repairs .given .1) (sym (c .enum-told3 .given .1) ∙ c .before .before .df-is-valid-extended-squitter .ensures)
+    lookup-found _ _ _ _ _ (c .before .before .before .before .before .before .before .before .args .found) (c .before .before .before .before .before .before .only .ensures) Invalid size low inside (found .repairs .given .1)
+    (ap validityTold (sym (c .enum-told3 .given .1)) ∙ c .before .before .df-is-valid-extended-squitter .ensures)
 
 returns-4 : tie.Need-returns-4
 returns-4 c =
     let found = c .before .before .before .before in
     let (size, low, inside) = c .before .before .before .before .before .before .before .before .pre in
-    lookup-found _ _ _ _ _ (c .before .before .before .before .before .before .before .before .args .found) (c .before .before .before .before .before .before .only .ensures) size low inside (found .repairs .given .1) (sym (c .enum-told4 .given .1) ∙ c .before .before .df-is-valid-extended-squitter .ensures)
+    lookup-found _ _ _ _ _ (c .before .before .before .before .before .before .before .before .args .found) (c .before .before .before .before .before .before .only .ensures) (Refused (c .enum-told4 .given .0 .0)) size low inside (found .repairs .given .1)
+    (ap validityTold (sym (c .enum-told4 .given .1)) ∙ c .before .before .df-is-valid-extended-squitter .ensures)
 
 pub try-one-spec : {M : Type 1} → statement M
 try-one-spec =

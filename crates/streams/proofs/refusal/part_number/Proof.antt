@@ -1,8 +1,8 @@
--- `streams::refusal::part_number` meets its contract.
+-- `streams::refusal::part_number` meets its contract: the refusal of the size, or the length beside it.
 -- Assumes nothing.
-use borrow.Author.Tests.{eq-eqb, ne-eqb, le-leb, lt-leb}
-use mathlib.Core.Path.{sym, _∙_}
-use Rattle.streams.specs.Streams.{partNumber}
+use mathlib.Core.Path.{sym, ap, _∙_}
+use Rattle.parts.specs.Part.{sizeTold}
+use Rattle.streams.proofs.Parting.{sized, behind}
 use borrow.Author.Needs.{needs}
 use Rattle.streams.proofs.refusal.part_number.Statement.{statement}
 use Rattle.streams.proofs.refusal.part_number.Tie as tie
@@ -10,17 +10,28 @@ use Rattle.streams.proofs.refusal.part_number.Tie as tie
 part-size-requires : tie.Need-part-size-requires
 part-size-requires c κs = search needs
 
+enum-known-size : tie.Need-enum-known-size
+enum-known-size c = search needs
+
+length-number-requires : tie.Need-length-number-requires
+length-number-requires c κs = search needs
+
+enum-known-number : tie.Need-enum-known-number
+enum-known-number c = search needs
+
 returns : tie.Need-returns
-unfolding partNumber
-returns c = simp (ne-eqb _ _ (λ e. c .if1 .taken (e ∙ sym (c .before .part-size .ensures))))
+returns c = sized _ _ (ap sizeTold (sym (c .before .before .size .given .1)) ∙ c .before .before .before .before .part-size .ensures) (c .length-number .ensures)
 
 returns-2 : tie.Need-returns-2
-unfolding partNumber
-returns-2 c = simp (eq-eqb _ _ (c .before .if1 .left ∙ c .before .before .part-size .ensures), lt-leb _ _ (c .if2 .taken))
-
-returns-3 : tie.Need-returns-3
-unfolding partNumber
-returns-3 c = simp (eq-eqb _ _ (c .before .if1 .left ∙ c .before .before .part-size .ensures), le-leb _ _ (c .if2 .left))
+returns-2 c = behind _ _ (ap sizeTold (sym (c .before .number .given .1)) ∙ c .before .before .before .part-size .ensures)
 
 pub part-number-spec : {M : Type 1} → statement M
-part-number-spec = tie.close (tie.spec part-size-requires returns returns-2 returns-3)
+part-number-spec =
+    tie.close
+    (tie.spec
+    part-size-requires
+    enum-known-size
+    length-number-requires
+    enum-known-number
+    returns
+    returns-2)

@@ -1,0 +1,5 @@
+pub mod Parts
+pub mod Listing
+pub mod Machine
+pub mod Run
+pub mod Statement

@@ -1,0 +1,45 @@
+// The listing of an input that comes in parts: which part is wanted next, what is done with it, what is printed.
+// Whoever reads hands over and prints; all else is here.
+mod head;
+mod moves;
+pub mod parts;
+mod samples;
+
+use listing::Text;
+use search::Settings;
+
+// The numbers of 32 bits before the samples, in their order.
+pub enum Field {
+    SettingsCount,
+    Level,
+    Threshold,
+    Second,
+    Distance,
+    WindowCount,
+    SampleCount,
+}
+
+// What the next part holds. The indices come between the window count and the sample count. Over: no part is wanted any more.
+pub enum Stage {
+    Number(Field),
+    Index,
+    Samples,
+    End,
+    Over,
+}
+
+// What is known of an input so far: its settings, how many windows it announces, how many of their indices, then of their samples,
+// came, and the indices.
+pub struct State {
+    pub stage: Stage,
+    pub settings: Settings,
+    pub windows: u32,
+    pub done: u32,
+    pub indices: [u64; 64],
+}
+
+// What becomes of a state, and what is to be printed.
+pub struct Fed {
+    pub state: State,
+    pub text: Text,
+}

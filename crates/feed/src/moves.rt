@@ -1,0 +1,98 @@
+// What becomes of a state.
+use crate::Fed;
+use crate::Field;
+use crate::Stage;
+use crate::State;
+use listing::Text;
+use listing::lines::refused_line;
+use search::Settings;
+ghost use mathlib.Core.Path.{_≡_};
+ghost use mathlib.Core.List.{[]};
+ghost use Rattle.feed.specs.Machine.{blank as blankOf, says, refuses as refusesWith, told as toldOf, counted as countedOf, indexStage, samplesStage};
+
+pub fn blank(stage: Stage) -> State
+    ensures { λ r. ⌜ r ≡ blankOf stage ⌝ }
+{
+    State {
+        stage,
+        settings: Settings {
+            level: 0,
+            threshold: 0.0,
+            second: 0.0,
+            distance: 0,
+        },
+        windows: 0,
+        done: 0,
+        indices: [0u64; 64],
+    }
+}
+
+// Nothing is printed.
+pub fn silent(state: State) -> Fed
+    ensures { λ r. ⌜ r ≡ says [] state ⌝ }
+{
+    Fed {
+        state,
+        text: Text {
+            length: 0,
+            bytes: [0u8; 160],
+        },
+    }
+}
+
+// A refusal is printed, and all is over.
+pub fn refuses(number: u64) -> Fed
+    ensures { λ r. ⌜ r ≡ refusesWith number ⌝ }
+{
+    Fed {
+        state: blank(Stage::Over),
+        text: refused_line(number),
+    }
+}
+
+pub fn told(stage: Stage, settings: Settings, s: State) -> State
+    ensures { λ r. ⌜ r ≡ toldOf stage settings s ⌝ }
+{
+    let indices = s.indices;
+    State {
+        stage,
+        settings,
+        windows: s.windows,
+        done: s.done,
+        indices,
+    }
+}
+
+pub fn counted(stage: Stage, windows: u32, done: u32, s: State) -> State
+    ensures { λ r. ⌜ r ≡ countedOf stage windows done s ⌝ }
+{
+    let settings = s.settings;
+    let indices = s.indices;
+    State {
+        stage,
+        settings,
+        windows,
+        done,
+        indices,
+    }
+}
+
+// Where k of the indices came.
+pub fn index_stage(k: u32, windows: u32) -> Stage
+    ensures { λ r. ⌜ r ≡ indexStage k windows ⌝ }
+{
+    if k < windows {
+        return Stage::Index;
+    }
+    Stage::Number(Field::SampleCount)
+}
+
+// Where k of the windows came.
+pub fn samples_stage(k: u32, windows: u32) -> Stage
+    ensures { λ r. ⌜ r ≡ samplesStage k windows ⌝ }
+{
+    if k < windows {
+        return Stage::Samples;
+    }
+    Stage::End
+}

@@ -1,9 +1,11 @@
 -- Each public contract of kernels fixes its outcome. Written by tools/outcomes; the prover trusts nothing of it.
 -- Assumes nothing.
-use mathlib.Core.Path.{refl}
+use mathlib.Core.Path.{refl, ap}
 use denote.Ref.{now}
 use Rattle.outcomes.specs.Outcome.{Fixed, answer}
 use Rattle.outcomes.proofs.Law.{fixes, answer-set}
+use Rattle.kernels.proofs.Told.{powerUntold, power-back}
+use Rattle.kernels.specs.Powers.{powerTold}
 use Rattle.kernels.proofs.both.postdecode_powers as both-postdecode-powers
 use Rattle.kernels.proofs.power.postdecode_power as power-postdecode-power
 use Rattle.kernels.proofs.power.postdecode_noise_power as power-postdecode-noise-power
@@ -18,12 +20,12 @@ both-postdecode-powers-fixed =
 pub power-postdecode-power-fixed : Fixed power-postdecode-power.ended (answer _) (λ M 𝓤 H. power-postdecode-power.clauses 𝓤 H) (λ M 𝓤 H. power-postdecode-power.spec 𝓤 H)
 power-postdecode-power-fixed =
     fixes power-postdecode-power.ended _ (answer-set power-postdecode-power.ended) refl (λ κs. refl)
-    (λ κs a r e. r) (λ κs a y. (y, (tt, (tt, tt)))) (λ κs a r ws. refl)
+    (λ κs a r e. powerTold r) (λ κs a y. (powerUntold y, (tt, (tt, tt)))) (λ κs a r ws. ap (λ x. (x, ws)) (power-back r))
 
 pub power-postdecode-noise-power-fixed : Fixed power-postdecode-noise-power.ended (answer _) (λ M 𝓤 H. power-postdecode-noise-power.clauses 𝓤 H) (λ M 𝓤 H. power-postdecode-noise-power.spec 𝓤 H)
 power-postdecode-noise-power-fixed =
     fixes power-postdecode-noise-power.ended _ (answer-set power-postdecode-noise-power.ended) refl (λ κs. refl)
-    (λ κs a r e. r) (λ κs a y. (y, (tt, (tt, tt)))) (λ κs a r ws. refl)
+    (λ κs a r e. powerTold r) (λ κs a y. (powerUntold y, (tt, (tt, tt)))) (λ κs a r ws. ap (λ x. (x, ws)) (power-back r))
 
 pub slicers-demodulate-fixed : Fixed slicers-demodulate.ended (answer _) (λ M 𝓤 H. slicers-demodulate.clauses 𝓤 H) (λ M 𝓤 H. slicers-demodulate.spec 𝓤 H)
 slicers-demodulate-fixed =

@@ -1,5 +1,6 @@
 pub mod Law
 pub mod Carrier
+pub mod Choice
 pub mod Cn0
 pub mod Feed
 pub mod Hash
@@ -18,5 +19,4 @@ pub mod Repairs
 pub mod Rolling
 pub mod Streams
 pub mod Timing
-pub mod Trials
 pub mod Words

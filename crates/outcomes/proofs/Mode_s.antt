@@ -1,9 +1,11 @@
 -- Each public contract of mode_s fixes its outcome. Written by tools/outcomes; the prover trusts nothing of it.
 -- Assumes nothing.
-use mathlib.Core.Path.{refl}
+use mathlib.Core.Path.{refl, ap}
 use denote.Ref.{now}
 use Rattle.outcomes.specs.Outcome.{Fixed, answer}
 use Rattle.outcomes.proofs.Law.{fixes, answer-set}
+use Rattle.mode_s.proofs.Told.{validityUntold, validity-back}
+use Rattle.mode_s.specs.Header.{validityTold}
 use Rattle.mode_s.proofs.avr.high_digit as avr-high-digit
 use Rattle.mode_s.proofs.avr.low_digit as avr-low-digit
 use Rattle.mode_s.proofs.avr.format_avr as avr-format-avr
@@ -43,7 +45,7 @@ crc-crc24-fixed =
 pub header-header-is-valid-fixed : Fixed header-header-is-valid.ended (answer _) (λ M 𝓤 H. header-header-is-valid.clauses 𝓤 H) (λ M 𝓤 H. header-header-is-valid.spec 𝓤 H)
 header-header-is-valid-fixed =
     fixes header-header-is-valid.ended _ (answer-set header-header-is-valid.ended) refl (λ κs. refl)
-    (λ κs a r e. r) (λ κs a y. (y, (tt, (tt, tt)))) (λ κs a r ws. refl)
+    (λ κs a r e. validityTold r) (λ κs a y. (validityUntold y, (tt, (tt, tt)))) (λ κs a r ws. ap (λ x. (x, ws)) (validity-back r))
 
 pub message-ModeSMessage-short-fixed : Fixed message-ModeSMessage-short.ended (answer _) (λ M 𝓤 H. message-ModeSMessage-short.clauses 𝓤 H) (λ M 𝓤 H. message-ModeSMessage-short.spec 𝓤 H)
 message-ModeSMessage-short-fixed =

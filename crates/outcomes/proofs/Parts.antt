@@ -1,9 +1,11 @@
 -- Each public contract of parts fixes its outcome. Written by tools/outcomes; the prover trusts nothing of it.
 -- Assumes nothing.
-use mathlib.Core.Path.{refl}
+use mathlib.Core.Path.{refl, ap}
 use denote.Ref.{now}
 use Rattle.outcomes.specs.Outcome.{Fixed, answer, part}
 use Rattle.outcomes.proofs.Law.{fixes, answer-set, part-set}
+use Rattle.parts.proofs.Told.{sizeUntold, size-back}
+use Rattle.parts.specs.Part.{sizeTold}
 use Rattle.parts.proofs.symbols_refusal as parts-symbols-refusal
 use Rattle.parts.proofs.symbols_for_place as parts-symbols-for-place
 use Rattle.parts.proofs.samples_refusal as parts-samples-refusal
@@ -40,7 +42,7 @@ parts-slicer-refusal-fixed =
 pub parts-part-size-fixed : Fixed parts-part-size.ended (answer _) (λ M 𝓤 H. parts-part-size.clauses 𝓤 H) (λ M 𝓤 H. parts-part-size.spec 𝓤 H)
 parts-part-size-fixed =
     fixes parts-part-size.ended _ (answer-set parts-part-size.ended) refl (λ κs. refl)
-    (λ κs a r e. r) (λ κs a y. (y, (tt, tt))) (λ κs a r ws. refl)
+    (λ κs a r e. sizeTold r) (λ κs a y. (sizeUntold y, (tt, tt))) (λ κs a r ws. ap (λ x. (x, ws)) (size-back r))
 
 pub parts-slicer-part-fixed : Fixed parts-slicer-part.ended (part _ _ (λ κs r. r)) (λ M 𝓤 H. parts-slicer-part.clauses 𝓤 H) (λ M 𝓤 H. parts-slicer-part.spec 𝓤 H)
 parts-slicer-part-fixed =

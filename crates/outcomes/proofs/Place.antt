@@ -1,30 +1,20 @@
 -- Each public contract of place fixes its outcome. Written by tools/outcomes; the prover trusts nothing of it.
 -- Assumes nothing.
-use mathlib.Core.Path.{refl}
+use mathlib.Core.Path.{refl, ap}
 use Rattle.outcomes.specs.Outcome.{Fixed, answer}
 use Rattle.outcomes.proofs.Law.{fixes, answer-set}
-use Rattle.place.proofs.Place.first as Place-first
-use Rattle.place.proofs.Place.last as Place-last
+use Rattle.place.proofs.Told.{steppedUntold, stepped-back}
+use Rattle.place.specs.Step.{steppedTold}
 use Rattle.place.proofs.Place.at as Place-at
 use Rattle.place.proofs.Place.is_listed as Place-is-listed
 use Rattle.place.proofs.Place.is_within as Place-is-within
 use Rattle.place.proofs.Place.earlier as Place-earlier
 use Rattle.place.proofs.Place.later as Place-later
 
-pub Place-first-fixed : Fixed Place-first.ended (answer _) (λ M 𝓤 H. Place-first.clauses 𝓤 H) (λ M 𝓤 H. Place-first.spec 𝓤 H)
-Place-first-fixed =
-    fixes Place-first.ended _ (answer-set Place-first.ended) refl (λ κs. refl)
-    (λ κs a r e. r) (λ κs a y. (y, tt)) (λ κs a r ws. refl)
-
-pub Place-last-fixed : Fixed Place-last.ended (answer _) (λ M 𝓤 H. Place-last.clauses 𝓤 H) (λ M 𝓤 H. Place-last.spec 𝓤 H)
-Place-last-fixed =
-    fixes Place-last.ended _ (answer-set Place-last.ended) refl (λ κs. refl)
-    (λ κs a r e. r) (λ κs a y. (y, tt)) (λ κs a r ws. refl)
-
 pub Place-at-fixed : Fixed Place-at.ended (answer _) (λ M 𝓤 H. Place-at.clauses 𝓤 H) (λ M 𝓤 H. Place-at.spec 𝓤 H)
 Place-at-fixed =
     fixes Place-at.ended _ (answer-set Place-at.ended) refl (λ κs. refl)
-    (λ κs a r e. r) (λ κs a y. (y, (tt, tt))) (λ κs a r ws. refl)
+    (λ κs a r e. steppedTold r) (λ κs a y. (steppedUntold y, (tt, tt))) (λ κs a r ws. ap (λ x. (x, ws)) (stepped-back r))
 
 pub Place-is-listed-fixed : Fixed Place-is-listed.ended (answer _) (λ M 𝓤 H. Place-is-listed.clauses 𝓤 H) (λ M 𝓤 H. Place-is-listed.spec 𝓤 H)
 Place-is-listed-fixed =
@@ -39,9 +29,9 @@ Place-is-within-fixed =
 pub Place-earlier-fixed : Fixed Place-earlier.ended (answer _) (λ M 𝓤 H. Place-earlier.clauses 𝓤 H) (λ M 𝓤 H. Place-earlier.spec 𝓤 H)
 Place-earlier-fixed =
     fixes Place-earlier.ended _ (answer-set Place-earlier.ended) refl (λ κs. refl)
-    (λ κs a r e. r) (λ κs a y. (y, (tt, tt))) (λ κs a r ws. refl)
+    (λ κs a r e. steppedTold r) (λ κs a y. (steppedUntold y, (tt, tt))) (λ κs a r ws. ap (λ x. (x, ws)) (stepped-back r))
 
 pub Place-later-fixed : Fixed Place-later.ended (answer _) (λ M 𝓤 H. Place-later.clauses 𝓤 H) (λ M 𝓤 H. Place-later.spec 𝓤 H)
 Place-later-fixed =
     fixes Place-later.ended _ (answer-set Place-later.ended) refl (λ κs. refl)
-    (λ κs a r e. r) (λ κs a y. (y, (tt, tt))) (λ κs a r ws. refl)
+    (λ κs a r e. steppedTold r) (λ κs a y. (steppedUntold y, (tt, tt))) (λ κs a r ws. ap (λ x. (x, ws)) (stepped-back r))

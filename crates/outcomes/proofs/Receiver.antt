@@ -1,14 +1,15 @@
 -- Each public contract of receiver fixes its outcome. Written by tools/outcomes; the prover trusts nothing of it.
 -- Assumes nothing.
-use mathlib.Core.Path.{refl}
+use mathlib.Core.Path.{refl, ap}
 use Rattle.outcomes.specs.Outcome.{Fixed, answer}
 use Rattle.outcomes.proofs.Law.{fixes, answer-set}
+use Rattle.receiver.proofs.Told.{attemptUntold, attempt-back}
+use Rattle.receiver.specs.Tries.{attemptTold}
 use Rattle.receiver.proofs.decode.read_place as decode-read-place
 use Rattle.receiver.proofs.decode.find_best_decode_candidate as decode-find-best-decode-candidate
 use Rattle.receiver.proofs.decode.time_message as decode-time-message
 use Rattle.receiver.proofs.decode.decode as decode-decode
-use Rattle.receiver.proofs.settings.check_settings as settings-check-settings
-use Rattle.receiver.proofs.settings.check_index as settings-check-index
+use Rattle.receiver.proofs.trials.try_decode as trials-try-decode
 
 pub decode-read-place-fixed : Fixed decode-read-place.ended (answer _) (λ M 𝓤 H. decode-read-place.clauses 𝓤 H) (λ M 𝓤 H. decode-read-place.spec 𝓤 H)
 decode-read-place-fixed =
@@ -30,12 +31,7 @@ decode-decode-fixed =
     fixes decode-decode.ended _ (answer-set decode-decode.ended) refl (λ κs. refl)
     (λ κs a r e. r) (λ κs a y. (y, (tt, (tt, (tt, tt))))) (λ κs a r ws. refl)
 
-pub settings-check-settings-fixed : Fixed settings-check-settings.ended (answer _) (λ M 𝓤 H. settings-check-settings.clauses 𝓤 H) (λ M 𝓤 H. settings-check-settings.spec 𝓤 H)
-settings-check-settings-fixed =
-    fixes settings-check-settings.ended _ (answer-set settings-check-settings.ended) refl (λ κs. refl)
-    (λ κs a r e. r) (λ κs a y. (y, (tt, tt))) (λ κs a r ws. refl)
-
-pub settings-check-index-fixed : Fixed settings-check-index.ended (answer _) (λ M 𝓤 H. settings-check-index.clauses 𝓤 H) (λ M 𝓤 H. settings-check-index.spec 𝓤 H)
-settings-check-index-fixed =
-    fixes settings-check-index.ended _ (answer-set settings-check-index.ended) refl (λ κs. refl)
-    (λ κs a r e. r) (λ κs a y. (y, (tt, tt))) (λ κs a r ws. refl)
+pub trials-try-decode-fixed : Fixed trials-try-decode.ended (answer _) (λ M 𝓤 H. trials-try-decode.clauses 𝓤 H) (λ M 𝓤 H. trials-try-decode.spec 𝓤 H)
+trials-try-decode-fixed =
+    fixes trials-try-decode.ended _ (answer-set trials-try-decode.ended) refl (λ κs. refl)
+    (λ κs a r e. attemptTold r) (λ κs a y. (attemptUntold y, (tt, (tt, (tt, (tt, tt)))))) (λ κs a r ws. ap (λ x. (x, ws)) (attempt-back r))

@@ -8,3 +8,4 @@ pub mod Weighing
 pub mod Clearing
 pub mod Finding
 pub mod Deciding
+pub mod Told

@@ -1,4 +1,6 @@
 -- Laws of symbol sums.
+--     four-is               four samples, one after the other
+--     sum-more              a turn of the loop over a block
 --     pair-more             a turn of the innermost loop
 --     block-starts, -ends   before the loops of a block, and after them
 --     symbols-length        there are 2,304 numbers
@@ -7,7 +9,7 @@
 --     row-symbol            a row by itself holds the symbols of its phase
 --     accumulated-done      the answer where nothing is refused
 -- Assumes nothing.
-use mathlib.Core.Path.{_≡_, sym, _∙_}
+use mathlib.Core.Path.{_≡_, sym, ap, _∙_}
 use mathlib.Core.List.{List}
 use Prim.Native.Nat.{ℕ, _+_, _-_, _*_, _/_, _%_, _<_, _≤_}
 use native.Mathlib.Omega.{arith}
@@ -15,29 +17,34 @@ use borrow.Author.Tests.{eq-eqb}
 use lib.ListN.{length, getD, set, take, drop}
 use lib.Seq.{getD-take, getD-drop}
 use lib.Ieee.{Float, nan}
-use Rattle.lists.proofs.Table.{Where, where-more, length-tabulate, getD-tabulate}
+use Rattle.lists.proofs.Table.{Done, done-more, Where, where-more, length-tabulate, getD-tabulate}
+use Rattle.math.specs.declared.Complex.{Complex}
+use Rattle.math.specs.Complex.{plusOf, zeroOf}
 use Rattle.kernels.specs.Symbols.{complexAt, sumFrom, symbolOf, symbolPart, symbolsOf, accumulated}
-use Rattle.kernels.specs.Inner.{fourFrom, runningSums}
+use Rattle.kernels.specs.Inner.{runningSum, runningSums}
 
--- the running sums hold both parts of the sum from number j on
-module _ (s : List Float) (j : ℕ) where
-  four-re : fourFrom s (2 * j) ≡ sumFrom s j 4 .re
-  unfolding fourFrom sumFrom complexAt
-  four-re =
-      let z : j + 0 ≡ j = omega arith in
-      let a : 2 * j + 2 ≡ 2 * (j + 1) = omega arith in
-      let b : 2 * j + 4 ≡ 2 * (j + 2) = omega arith in
-      let d : 2 * j + 6 ≡ 2 * (j + 3) = omega arith in
-      rw (z, a, b, d)
+-- four samples, one after the other
+pub four-is : (s : List Float) (j : ℕ) {a b c d p q t u : Complex} → a ≡ complexAt s j → p ≡ plusOf zeroOf a → b ≡ complexAt s (j + 1) → q ≡ plusOf p b
+    → c ≡ complexAt s (j + 2) → t ≡ plusOf q c → d ≡ complexAt s (j + 3) → u ≡ plusOf t d → u ≡ sumFrom s j 4
+unfolding sumFrom
+four-is s j ea ep eb eq ec et ed eu =
+    let z : j + 0 ≡ j = omega arith in
+    rw (eu, et, eq, ep, ea, eb, ec, ed, z)
 
-  four-im : fourFrom s (2 * j + 1) ≡ sumFrom s j 4 .im
-  unfolding fourFrom sumFrom complexAt
-  four-im =
-      let z : j + 0 ≡ j = omega arith in
-      let a : 2 * j + 1 + 2 ≡ 2 * (j + 1) + 1 = omega arith in
-      let b : 2 * j + 1 + 4 ≡ 2 * (j + 2) + 1 = omega arith in
-      let d : 2 * j + 1 + 6 ≡ 2 * (j + 3) + 1 = omega arith in
-      rw (z, a, b, d)
+-- both parts of a sum are stored
+pub sum-more : (s xs : List Float) (block i : ℕ) {z : Complex} → i < 32 → z ≡ sumFrom s (32 * block + i) 4 → Done nan (runningSum s block) 64 xs (2 * i)
+    → Done nan (runningSum s block) 64 (set (set xs (2 * i) (z .re)) (2 * i + 1) (z .im)) (2 * (i + 1))
+unfolding runningSum
+sum-more s xs block i {z} h e r =
+    let a : 2 * i % 2 ≡ 0 = omega arith in
+    let b : 2 * i / 2 ≡ i = omega arith in
+    let c : (2 * i + 1) % 2 ≡ 1 = omega arith in
+    let d : (2 * i + 1) / 2 ≡ i = omega arith in
+    let u : 2 * (i + 1) ≡ 2 * i + 1 + 1 = omega arith in
+    rw u
+    (done-more nan (runningSum s block) 64 (set xs (2 * i) (z .re)) (2 * i + 1) (z .im) (omega arith)
+    (done-more nan (runningSum s block) 64 xs (2 * i) (z .re) (omega arith) r (rw (a, b) (ap (λ (w : Complex). w .re) e)))
+    (rw (c, d) (ap (λ (w : Complex). w .im) e)))
 
 -- the numbers of symbol n of phase k
 module _ (s : List Float) (k n : ℕ) (l : n < 288) where
@@ -79,25 +86,26 @@ stored-next block k e j he q other =
 pub pair-more : (s xs sums : List Float) (block k n : ℕ) → block < 36 → k < 4 → n < 8 → sums ≡ runningSums s block
     → Where nan (symbolPart s) 2304 xs (Stored block (16 * k + 2 * n))
     → Where nan (symbolPart s) 2304 (set (set xs (576 * k + 2 * (8 * block + n)) (getD sums (2 * (4 * n + k)) nan)) (576 * k + 2 * (8 * block + n) + 1) (getD sums (2 * (4 * n + k) + 1) nan)) (Stored block (16 * k + 2 * (n + 1)))
-unfolding symbolOf runningSums
+unfolding symbolOf runningSum runningSums
 pair-more s xs sums block k n hb hk hn e r =
     let i = 576 * k + 2 * (8 * block + n) in
     let from = 2 * (4 * n + k) in
     let j = 4 * (8 * block + n) + k in
     let t = 16 * k + 2 * n in
-    let f : ℕ → Float = λ (m : ℕ). fourFrom s (64 * block + m) in
-    let a : 64 * block + from ≡ 2 * j = omega arith in
-    let b : 64 * block + (from + 1) ≡ 2 * j + 1 = omega arith in
+    let a : from % 2 ≡ 0 = omega arith in
+    let b : 32 * block + from / 2 ≡ j = omega arith in
+    let c : (from + 1) % 2 ≡ 1 = omega arith in
+    let d : 32 * block + (from + 1) / 2 ≡ j = omega arith in
     let l : 8 * block + n < 288 = omega arith in
     let u : 16 * k + (2 * n + 1) + 1 ≡ 16 * k + 2 * (n + 1) = omega arith in
     let v : 576 * k + 16 * block + (2 * n + 1) ≡ i + 1 = omega arith in
     let w : 576 * k + 16 * block + 2 * n ≡ i = omega arith in
     let z : 16 * k + (2 * n + 1) ≡ 16 * k + 2 * n + 1 = omega arith in
     where-more nan (symbolPart s) 2304 (set xs i (getD sums from nan)) (Stored block (16 * k + (2 * n + 1))) (Stored block (16 * k + 2 * (n + 1))) (i + 1) (getD sums (from + 1) nan) (omega arith)
-    (rw (e, getD-tabulate 64 f (from + 1) nan (omega arith), im-is s k (8 * block + n) l, b) (four-im s j))
+    (rw (e, getD-tabulate 64 (runningSum s block) (from + 1) nan (omega arith), im-is s k (8 * block + n) l, c, d))
     (λ m h q other. stored-next block k (2 * n + 1) m (omega arith) (rw u q) (λ x. other (x ∙ v)))
     (where-more nan (symbolPart s) 2304 xs (Stored block t) (Stored block (16 * k + (2 * n + 1))) i (getD sums from nan) (omega arith)
-    (rw (e, getD-tabulate 64 f from nan (omega arith), re-is s k (8 * block + n) l, a) (four-re s j))
+    (rw (e, getD-tabulate 64 (runningSum s block) from nan (omega arith), re-is s k (8 * block + n) l, a, b))
     (λ m h q other. stored-next block k (2 * n) m (omega arith) (rw (← z) q) (λ x. other (x ∙ w)))
     r)
 

@@ -4,22 +4,20 @@ use mathlib.Core.List.{List}
 use Prim.Native.Nat.{ℕ, _+_, _*_, _/_, _%_, _^_}
 use lib.Bits.{bitOr}
 use lib.ListN.{getD}
-use lib.Ieee.{Float, nan, binary32, add}
+use lib.Ieee.{Float}
 use Rattle.lists.specs.From.{tabulate}
-use Rattle.floats.specs.Zero.{zeroF}
 use Rattle.math.specs.Complex.{normOf}
 use Rattle.place.specs.declared.Slicer.{Slicer}
-use Rattle.kernels.specs.Symbols.{complexAt}
+use Rattle.kernels.specs.Symbols.{complexAt, sumFrom, partOf}
 use Rattle.kernels.specs.Slices.{slicedBit}
 
--- numbers i, i + 2, i + 4 and i + 6 of a row, in order, from 0.0
-unfoldable pub fourFrom : List Float → ℕ → Float
-fourFrom xs i =
-    add binary32 (add binary32 (add binary32 (add binary32 zeroF (getD xs i nan)) (getD xs (i + 2) nan)) (getD xs (i + 4) nan)) (getD xs (i + 6) nan)
+-- the sums of four samples, one from each of the 32 of a block on: number i is part i % 2 of sum i / 2
+unfoldable pub runningSum : List Float → ℕ → ℕ → Float
+runningSum samples block i = partOf (i % 2) (sumFrom samples (32 * block + i / 2) 4)
 
--- such a sum for each of the 64 numbers of a block: `accumulate_symbols` takes the symbols from these rows
+-- `accumulate_symbols` takes the symbols from these rows
 unfoldable pub runningSums : List Float → ℕ → List Float
-runningSums samples block = tabulate 64 (λ (i : ℕ). fourFrom samples (64 * block + i))
+runningSums samples block = tabulate 64 (runningSum samples block)
 
 -- the norms of a row
 unfoldable pub normsOf : List Float → List Float

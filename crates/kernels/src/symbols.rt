@@ -1,18 +1,33 @@
 // Symbol sums: four samples each, at four clock phases.
+use crate::complex::complex_at;
+use math::Complex;
 ghost use mathlib.Core.Path.{_≡_};
-ghost use Prim.Native.Nat.{_<_};
+ghost use Prim.Native.Nat.{_+_, _*_, _<_};
 ghost use lib.ListN.{length};
-ghost use Rattle.kernels.specs.Symbols.{symbolsOf, accumulated};
+ghost use Rattle.kernels.specs.Symbols.{sumFrom, symbolsOf, accumulated};
 ghost use Rattle.kernels.specs.Inner.{runningSums};
 
-// A sum for each of 64 numbers of the samples: itself and the next three of its part. Neighbours are summed side by side.
+// The sum of the four samples from number j on.
+fn sum_four(samples: &[f32], j: usize) -> Complex
+    requires { ⌜ 2 * j + 7 < length (now samples) ⌝ }
+    ensures { λ r. ⌜ r ≡ sumFrom (now (samples .entry)) j 4 ⌝ }
+{
+    Complex::ZERO
+        .plus(complex_at(samples, j))
+        .plus(complex_at(samples, j + 1))
+        .plus(complex_at(samples, j + 2))
+        .plus(complex_at(samples, j + 3))
+}
+
+// Such a sum from each of 32 samples on. Neighbours are summed side by side.
 fn running_sums(samples: &[f32], block: usize, sums: &mut [f32])
     requires { ⌜ (length (now samples) ≡ 2310) × (block < 36) × (length (now sums) ≡ 64) ⌝ }
     ensures { λ _. ⌜ now (sums .exit) ≡ runningSums (now (samples .entry)) block ⌝ }
 {
-    for i in 0..64 {
-        let j = 64 * block + i;
-        sums[i] = 0.0 + samples[j] + samples[j + 2] + samples[j + 4] + samples[j + 6];
+    for i in 0..32 {
+        let sum = sum_four(samples, 32 * block + i);
+        sums[2 * i] = sum.re;
+        sums[2 * i + 1] = sum.im;
     }
 }
 

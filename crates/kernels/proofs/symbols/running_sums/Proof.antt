@@ -1,67 +1,53 @@
 -- `kernels::symbols::running_sums` meets its contract. The loop: the first i sums are stored. Assumes nothing.
-use mathlib.Core.Path.{refl}
-use Prim.Native.Nat.{ℕ, _+_, _*_, _-_, _≤_}
+use Prim.Native.Nat.{_*_, _-_, _≤_}
 use native.Mathlib.Omega.{arith}
+use lib.ListN.{length-set}
 use lib.Ieee.{nan}
-use Rattle.lists.proofs.Table.{Done, done-none, done-more, done-all}
-use Rattle.kernels.specs.Inner.{fourFrom, runningSums}
+use Rattle.lists.proofs.Table.{Done, done-none, done-all}
+use Rattle.kernels.specs.Inner.{runningSum, runningSums}
+use Rattle.kernels.proofs.Summing.{sum-more}
 use borrow.Author.Needs.{needs}
 use Rattle.kernels.proofs.symbols.running_sums.Statement.{statement}
 use Rattle.kernels.proofs.symbols.running_sums.Tie as tie
 
 abbrev Inv-loop : tie.InvT-loop
-Inv-loop samples block sums₀ i₀ sums i = (i ≤ 64) × Done nan (λ (k : ℕ). fourFrom samples (64 * block + k)) 64 sums i
+Inv-loop samples block sums₀ i₀ sums i = (i ≤ 32) × Done nan (runningSum samples block) 64 sums (2 * i)
 
 abbrev μ-loop : tie.MeasureT-loop
-μ-loop samples block sums₀ i₀ sums i = 64 - i
+μ-loop samples block sums₀ i₀ sums i = 32 - i
 
 loop-holds : tie.Need-loop-holds Inv-loop μ-loop
-loop-holds c = (search needs, done-none _ _ _ _ (c .pre .2))
+loop-holds c = (search needs, done-none _ _ _ _ (c .before .before .pre .2))
 
-mul-j : tie.Need-mul-j Inv-loop μ-loop
-mul-j c = search needs
+mul-sum-four : tie.Need-mul-sum-four Inv-loop μ-loop
+mul-sum-four c = search needs
 
-add-j : tie.Need-add-j Inv-loop μ-loop
-add-j c = search needs
+add-sum-four : tie.Need-add-sum-four Inv-loop μ-loop
+add-sum-four c = search needs
+
+sum-four-requires : tie.Need-sum-four-requires Inv-loop μ-loop
+sum-four-requires c κs = search needs
 
 mul-sums : tie.Need-mul-sums Inv-loop μ-loop
 mul-sums c = search needs
 
-shared-slice-read-sums : tie.Need-shared-slice-read-sums Inv-loop μ-loop
-shared-slice-read-sums c = search needs
-
-add-sums : tie.Need-add-sums Inv-loop μ-loop
-add-sums c = search needs
-
 mul-sums-2 : tie.Need-mul-sums-2 Inv-loop μ-loop
 mul-sums-2 c = search needs
 
-shared-slice-read-sums-2 : tie.Need-shared-slice-read-sums-2 Inv-loop μ-loop
-shared-slice-read-sums-2 c = search needs
-
-add-sums-2 : tie.Need-add-sums-2 Inv-loop μ-loop
-add-sums-2 c = search needs
+slice-write-sums : tie.Need-slice-write-sums Inv-loop μ-loop
+slice-write-sums c = search needs
 
 mul-sums-3 : tie.Need-mul-sums-3 Inv-loop μ-loop
 mul-sums-3 c = search needs
 
-shared-slice-read-sums-3 : tie.Need-shared-slice-read-sums-3 Inv-loop μ-loop
-shared-slice-read-sums-3 c = search needs
-
-add-sums-3 : tie.Need-add-sums-3 Inv-loop μ-loop
-add-sums-3 c = search needs
+add-sums : tie.Need-add-sums Inv-loop μ-loop
+add-sums c = search needs
 
 mul-sums-4 : tie.Need-mul-sums-4 Inv-loop μ-loop
 mul-sums-4 c = search needs
 
-shared-slice-read-sums-4 : tie.Need-shared-slice-read-sums-4 Inv-loop μ-loop
-shared-slice-read-sums-4 c = search needs
-
-mul-sums-5 : tie.Need-mul-sums-5 Inv-loop μ-loop
-mul-sums-5 c = search needs
-
-slice-write-sums : tie.Need-slice-write-sums Inv-loop μ-loop
-slice-write-sums c = search needs
+slice-write-sums-2 : tie.Need-slice-write-sums-2 Inv-loop μ-loop
+slice-write-sums-2 c = simp length-set (omega arith)
 
 add-i : tie.Need-add-i Inv-loop μ-loop
 add-i c = search needs
@@ -70,8 +56,7 @@ loop-less : tie.Need-loop-less Inv-loop μ-loop
 loop-less c = search needs
 
 loop-again : tie.Need-loop-again Inv-loop μ-loop
-unfolding fourFrom
-loop-again c = (search needs, done-more _ _ _ _ _ _ (c .before .before .before .before .loop-test .taken) (c .before .before .before .before .before .loop .inv .1) refl)
+loop-again c = (search needs, sum-more _ _ _ _ (c .before .loop-test .taken) (c .sum-four .ensures) (c .before .before .loop .inv .1))
 
 same-length : tie.Need-same-length Inv-loop μ-loop
 same-length c = search needs
@@ -87,21 +72,16 @@ running-sums-spec =
     Inv-loop
     μ-loop
     loop-holds
-    mul-j
-    add-j
+    mul-sum-four
+    add-sum-four
+    sum-four-requires
     mul-sums
-    shared-slice-read-sums
-    add-sums
     mul-sums-2
-    shared-slice-read-sums-2
-    add-sums-2
-    mul-sums-3
-    shared-slice-read-sums-3
-    add-sums-3
-    mul-sums-4
-    shared-slice-read-sums-4
-    mul-sums-5
     slice-write-sums
+    mul-sums-3
+    add-sums
+    mul-sums-4
+    slice-write-sums-2
     add-i
     loop-less
     loop-again

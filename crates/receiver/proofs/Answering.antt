@@ -11,7 +11,7 @@ use native.Mathlib.Omega.{arith}
 use borrow.Author.Tests.{eqb-true, leb-true, ne-eqb}
 use lib.Dec.{eqb, leb}
 use lib.ListN.{length}
-use Rattle.annex10.specs.Repair.{orElse, fitting, clearing}
+use Rattle.annex10.specs.Repair.{fitting, clearing}
 use Rattle.annex10.specs.Any.{clearingAny}
 use Rattle.annex10.specs.declared.Found.{Found}
 use Rattle.annex10.specs.declared.Found.the-variants.{At, Nothing}

@@ -15,13 +15,10 @@ use borrow.Author.Tests.{eqb-true, eqb-false, leb-true, eq-eqb, ne-eqb}
 use lib.Dec.{eqb, leb}
 use lib.ListN.{length}
 use lib.Ieee.{Float}
-use lib.Ieee.Scale.{finite}
 use Rattle.place.specs.declared.Place.{Place}
 use Rattle.place.specs.Step.{sampleStart}
 use Rattle.place.specs.All.{listed}
 use Rattle.place.proofs.All.{member-listed}
-use Rattle.timing.specs.declared.Moves.{Moves}
-use Rattle.timing.specs.declared.Moves.the-variants.{Back, On}
 use Rattle.timing.specs.declared.Timing.{Timing}
 use Rattle.timing.specs.Subsample.{fractionOf}
 use Rattle.timing.specs.Inner.{movesCount}

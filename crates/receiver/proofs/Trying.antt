@@ -2,7 +2,7 @@
 --     lookup-missed    nothing is found: the trial fails
 --     lookup-found     positions are found: the trial passes exactly if the header check says so
 -- Assumes nothing.
-use mathlib.Core.Path.{_≡_, refl, sym, ap, _∙_, subst}
+use mathlib.Core.Path.{_≡_, sym, _∙_, subst}
 use mathlib.Core.Bool.{Bool, true, false, cond}
 use mathlib.Core.List.{List}
 use Prim.Native.Nat.{ℕ, _<_, _≤_}
@@ -12,7 +12,7 @@ use lib.ListN.{length, getD}
 use Rattle.lists.specs.Told.{done}
 use Rattle.lists.proofs.Telling.{same-values, not-done}
 use Rattle.annex10.specs.Header.{longHeader}
-use Rattle.annex10.specs.Repair.{count, inside, repairedHead}
+use Rattle.annex10.specs.Repair.{count, inside}
 use Rattle.annex10.specs.Any.{only}
 use Rattle.annex10.specs.declared.Repairs.{Repairs}
 use Rattle.annex10.specs.declared.Found.{Found}

@@ -17,7 +17,6 @@ use lib.Ieee.{Float}
 use lib.Ieee.Scale.{finite}
 use Rattle.lists.specs.Told.{done, refused}
 use Rattle.lists.proofs.Telling.{same-values, not-done}
-use Rattle.annex10.specs.declared.Found.{Found}
 use Rattle.annex10.specs.Repair.{inside, repaired}
 use Rattle.annex10.proofs.Positions.{proper-inside}
 use Rattle.place.specs.declared.Place.{Place}
@@ -37,9 +36,7 @@ use Rattle.search.specs.Choice.{candidate, dropped, survivor, candidateAt}
 use Rattle.search.specs.Kinds.{long}
 use Rattle.search.specs.Answers.{settingsNumber, survivorOf}
 use Rattle.search.proofs.Passing.{sound}
-use Rattle.choice.specs.declared.filter.Filtered.{Filtered}
-use Rattle.choice.specs.declared.filter.Filtered.the-variants.{Is, Refused}
-use Rattle.choice.specs.Filtered.{filteredTold, filteredOf}
+use Rattle.choice.specs.Filtered.{filteredOf}
 use Rattle.receiver.specs.Inner.{seenAt}
 
 -- ---- the settings

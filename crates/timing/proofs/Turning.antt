@@ -302,10 +302,6 @@ pub rest-rest : (x : Float) → Rests x → afterMoves x ≡ x
 unfolding afterMoves
 rest-rest x r = ap move (move-rest x r) ∙ move-rest x r
 
-pub rest-rests : (x : Float) → InRange x → Rests (afterMoves x)
-unfolding afterMoves
-rest-rests x r = rests-after-two x r
-
 pub rest-move : (x : Float) → InRange x → afterMoves (move x) ≡ afterMoves x
 unfolding afterMoves
 rest-move x r = move-rest (move (move x)) (rests-after-two x r)

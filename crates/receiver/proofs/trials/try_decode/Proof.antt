@@ -1,8 +1,6 @@
 -- `receiver::trials::try_decode` meets its contract: a refusal, or what the six trials give with what clears the messages' own remainders.
 -- Assumes nothing.
 use mathlib.Core.Path.{_∙_, ap}
-use mathlib.Core.Bool.{not}
-use lib.Dec.{eqb}
 use Rattle.lists.specs.Told.{done}
 use Rattle.lists.proofs.Telling.{told-refused, told-done}
 use Rattle.annex10.specs.Any.{clearingAny}

@@ -1,9 +1,8 @@
--- `window::turned_pulse` is safe and ends.
--- Assumes nothing.
+-- `worked::pulse` is safe and ends. The loop: m is at most 4. Assumes nothing.
+use Prim.Native.Nat.{_≤_, _-_}
 use borrow.Author.Needs.{needs}
-use Prim.Native.Nat.{_-_, _≤_}
-use Rattle.window.proofs.turned_pulse.Statement.{statement}
-use Rattle.window.proofs.turned_pulse.Tie as tie
+use Rattle.worked.proofs.pulse.Statement.{statement}
+use Rattle.worked.proofs.pulse.Tie as tie
 
 abbrev Inv-loop : tie.InvT-loop
 Inv-loop samples₀ start m₀ samples m = m ≤ 4
@@ -19,9 +18,6 @@ add-samples c = search needs
 
 mul-samples : tie.Need-mul-samples Inv-loop μ-loop
 mul-samples c = search needs
-
-add-samples-2 : tie.Need-add-samples-2 Inv-loop μ-loop
-add-samples-2 c = search needs
 
 mul-samples-2 : tie.Need-mul-samples-2 Inv-loop μ-loop
 mul-samples-2 c = search needs
@@ -41,8 +37,8 @@ loop-again c = search needs
 returns : tie.Need-returns Inv-loop μ-loop
 returns c = search needs
 
-pub turned-pulse-spec : {M : Type 1} → statement M
-turned-pulse-spec =
+pub pulse-spec : {M : Type 1} → statement M
+pulse-spec =
     tie.close
     (tie.spec
     Inv-loop
@@ -50,7 +46,6 @@ turned-pulse-spec =
     loop-holds
     add-samples
     mul-samples
-    add-samples-2
     mul-samples-2
     element-write-samples
     add-m

@@ -1,8 +1,9 @@
--- `window::pulse` is safe and ends. The loop: m is at most 4. Assumes nothing.
-use Prim.Native.Nat.{_≤_, _-_}
+-- `worked::turned_pulse` is safe and ends.
+-- Assumes nothing.
 use borrow.Author.Needs.{needs}
-use Rattle.window.proofs.pulse.Statement.{statement}
-use Rattle.window.proofs.pulse.Tie as tie
+use Prim.Native.Nat.{_-_, _≤_}
+use Rattle.worked.proofs.turned_pulse.Statement.{statement}
+use Rattle.worked.proofs.turned_pulse.Tie as tie
 
 abbrev Inv-loop : tie.InvT-loop
 Inv-loop samples₀ start m₀ samples m = m ≤ 4
@@ -18,6 +19,9 @@ add-samples c = search needs
 
 mul-samples : tie.Need-mul-samples Inv-loop μ-loop
 mul-samples c = search needs
+
+add-samples-2 : tie.Need-add-samples-2 Inv-loop μ-loop
+add-samples-2 c = search needs
 
 mul-samples-2 : tie.Need-mul-samples-2 Inv-loop μ-loop
 mul-samples-2 c = search needs
@@ -37,8 +41,8 @@ loop-again c = search needs
 returns : tie.Need-returns Inv-loop μ-loop
 returns c = search needs
 
-pub pulse-spec : {M : Type 1} → statement M
-pulse-spec =
+pub turned-pulse-spec : {M : Type 1} → statement M
+turned-pulse-spec =
     tie.close
     (tie.spec
     Inv-loop
@@ -46,6 +50,7 @@ pulse-spec =
     loop-holds
     add-samples
     mul-samples
+    add-samples-2
     mul-samples-2
     element-write-samples
     add-m

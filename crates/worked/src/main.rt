@@ -1,5 +1,5 @@
-// Two windows, read and decoded. The first holds one message without noise. In the second the slicers disagree at one place, so that
-// trial 4 clears the noncoherent bits, fails at their header, and trial 5 has to go back to the coherent bits.
+// Two worked windows, step by step and decoded. The first holds one message without noise. In the second the slicers disagree at one
+// place, so that trial 4 clears the noncoherent bits, fails at their header, and trial 5 has to go back to the coherent bits.
 use annex10::Repairs;
 use kernels::slicers::demodulate;
 use kernels::symbols::accumulate_symbols;

@@ -1,9 +1,9 @@
--- `window::send_both` is safe and ends.
+-- `worked::send_both` is safe and ends.
 -- Assumes nothing.
 use borrow.Author.Needs.{needs}
 use Prim.Native.Nat.{_-_, _≤_}
-use Rattle.window.proofs.send_both.Statement.{statement}
-use Rattle.window.proofs.send_both.Tie as tie
+use Rattle.worked.proofs.send_both.Statement.{statement}
+use Rattle.worked.proofs.send_both.Tie as tie
 
 abbrev Inv-loop : tie.InvT-loop
 Inv-loop coherent noncoherent samples₀ j₀ samples j = j ≤ 112

@@ -2,6 +2,7 @@
 use crate::six::try_six;
 use annex10::Found;
 use annex10::Repairs;
+use place::Place;
 use repairs::double_bit_error_from_crc24;
 use repairs::single_bit_error_from_crc24;
 use search::Tried;
@@ -33,7 +34,7 @@ fn try_number(level: u32, coherent: &[u8], noncoherent: &[u8], bit: usize) -> u3
     if level > 2 {
         return 4;
     }
-    if bit > 32 {
+    if bit > Place::BIT_MAX {
         return 7;
     }
     0

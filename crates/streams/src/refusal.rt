@@ -1,6 +1,7 @@
 // What every call at a bit offset of a stream refuses.
 use parts::PartSize;
 use parts::part_size;
+use place::Place;
 ghost use mathlib.Core.Path.{_≡_};
 ghost use mathlib.Core.Bool.{cond};
 ghost use lib.Dec.{eqb};
@@ -13,7 +14,7 @@ pub fn stream_number(bytes: &[u8], offset: usize) -> u32
     if bytes.len() != 18 {
         return 2;
     }
-    if offset > 32 { // a message from bit 33 on would end behind the stream
+    if offset > Place::BIT_MAX { // a message from the next bit on would end behind the stream
         return 7;
     }
     0

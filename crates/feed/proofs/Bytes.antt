@@ -1,13 +1,12 @@
--- Bytes that have the right length: the number of eight, the floats of a window.
+-- The number that eight bytes write, byte by byte.
 -- Assumes nothing.
 use mathlib.Core.Path.{_≡_, refl, sym, ap}
 use mathlib.Core.List.{List, [], _∷_}
 use Prim.Native.Nat.{ℕ}
-use lib.Ieee.{Float}
 use lib.ListN.{length, getD}
 use Rattle.lists.specs.From.{from, tabulate}
 use Rattle.lists.proofs.Table.{tabulate-is}
-use Rattle.words.specs.Words.{littleEndian, floatAt, windowFloats}
+use Rattle.words.specs.Words.{littleEndian}
 
 pub eight-is : (b : List ℕ) → length b ≡ 8
     → littleEndian
@@ -15,8 +14,3 @@ pub eight-is : (b : List ℕ) → length b ≡ 8
     ≡ littleEndian b
 unfolding tabulate from
 eight-is b h = ap littleEndian (sym (tabulate-is 0 (λ (k : ℕ). getD b k 0) 8 b h (λ k i. refl)))
-
-pub floats-done : (bytes : List ℕ) (out : List Float) {r : ℕ} {x : List Float} → length bytes ≡ 9240 → length out ≡ 2310
-    → (r, x) ≡ windowFloats bytes out → x ≡ tabulate 2310 (floatAt bytes)
-unfolding windowFloats
-floats-done bytes out h k e = ap (λ (p : ℕ × List Float). p .1) (simp (h, k) at e)

@@ -2,7 +2,7 @@
 -- Assumes nothing.
 use mathlib.Core.Path.{_≡_, refl}
 use mathlib.Core.Bool.{Bool, true, false, cond}
-use mathlib.Core.List.{List, []}
+use mathlib.Core.List.{List}
 use mathlib.Core.Logic.{_≢_}
 use Prim.Native.Nat.{ℕ, _+_, _-_, _*_, _≤_, _<_}
 use native.Mathlib.Omega.{arith}
@@ -26,6 +26,7 @@ use Rattle.feed.specs.declared.Field.the-variants.{
 use Rattle.feed.specs.declared.Stage.{Stage}
 use Rattle.feed.specs.declared.Stage.the-variants.{Number, Index, Samples, End, Over}
 use Rattle.feed.specs.declared.State.{State}
+use Rattle.feed.specs.declared.Said.the-variants.{Nothing}
 use Rattle.feed.specs.declared.Fed.{Fed}
 use Rattle.feed.specs.Machine.{
   wantedAt,
@@ -48,7 +49,7 @@ use Rattle.feed.specs.Statement.{leftFrom, leftAt, leftOf}
 -- a check: what is refused is over
 left-provided : (t : Bool) (number n : ℕ) (fed : Fed) → 0 < n → (t ≡ true → leftOf (fed .state) < n)
     → leftOf (provided t number fed .state) < n
-unfolding provided refuses says leftOf
+unfolding provided leftOf
 left-provided true number n fed some h = h refl
 left-provided false number n fed some h = some
 
@@ -67,7 +68,7 @@ left-samples k w = go (ltb k w) where
   go false = omega arith
 
 left-number : (f : Field) (s : State) (n : ℕ) → leftOf (numberFed f s (s .settings) n .state) < leftFrom f
-unfolding says leftOf
+unfolding leftOf
 left-number SettingsCount s n = left-provided (eqb n 4) 10 136 _ (omega arith) (λ e. omega arith)
 left-number Level s n = left-provided (leb n 2) 4 135 _ (omega arith) (λ e. omega arith)
 left-number Threshold s n = left-provided (finite (ofBits binary32 n)) 5 134 _ (omega arith) (λ e. omega arith)
@@ -78,7 +79,7 @@ left-number SampleCount s n =
     left-provided (eqb n (2310 * s .windows)) 10 66 _ (omega arith) (λ e. omega (arith, left-samples 0 (s .windows)))
 
 left-at : (g : Stage) (s : State) (part : List ℕ) → wantedAt g ≢ 0 → leftOf (fedAt g s part .state) < leftAt g (s .done)
-unfolding sized says indexFed samplesFed leftOf
+unfolding sized indexFed samplesFed leftOf
 left-at (Number f) s part some =
     left-provided (eqb (length part) 4) 10 (leftFrom f) _ (omega (arith, left-number f s 0)) (λ e. left-number f s (littleEndian part))
 left-at Index s part some =
@@ -119,17 +120,17 @@ some-at End done some = omega arith
 some-at Over done some = absurd (some refl)
 
 pub nearer-failed : (s : State) → wantedOf s ≢ 0 → leftOf (failedOf s .state) < leftOf s
-unfolding wantedOf leftOf refuses says
+unfolding wantedOf leftOf
 nearer-failed s some = rw (failed-is s some) (some-at (s .stage) (s .done) some)
 
-over-at : (g : Stage) (s : State) (part : List ℕ) → wantedAt g ≡ 0 → fedAt g s part ≡ says [] s
+over-at : (g : Stage) (s : State) (part : List ℕ) → wantedAt g ≡ 0 → fedAt g s part ≡ says Nothing s
 over-at (Number f) s part e = let z : ⊥ = omega arith in absurd z
 over-at Index s part e = let z : ⊥ = omega arith in absurd z
 over-at Samples s part e = let z : ⊥ = omega arith in absurd z
 over-at End s part e = let z : ⊥ = omega arith in absurd z
 over-at Over s part e = refl
 
-pub over : (s : State) (part : List ℕ) → wantedOf s ≡ 0 → (fedOf s part ≡ says [] s) × (failedOf s ≡ says [] s)
+pub over : (s : State) (part : List ℕ) → wantedOf s ≡ 0 → (fedOf s part ≡ says Nothing s) × (failedOf s ≡ says Nothing s)
 unfolding fedOf wantedOf failedOf
 over s part e = (over-at (s .stage) s part e, simp (eq-eqb (wantedOf s) 0 e))
 

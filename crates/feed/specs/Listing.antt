@@ -1,54 +1,23 @@
--- THE LISTING OF AN INPUT, whatever its bytes are. Each part is checked as it is met, and what was printed before a refusal stands.
+-- THE LISTING OF AN INPUT, whatever its bytes are: the texts of its lines.
 -- Assumes nothing.
 use mathlib.Core.List.{List, [], _∷_, _++_}
-use Prim.Native.Nat.{ℕ, zero, suc, _*_}
-use lib.Dec.{eqb, leb}
-use lib.Ieee.{binary32, ofBits}
-use lib.Ieee.Scale.{finite}
-use lib.ListN.{length}
+use Prim.Native.Nat.{ℕ}
 use Rattle.lists.specs.From.{tabulate}
-use Rattle.search.specs.declared.Settings.{Settings}
-use Rattle.search.specs.Answers.{indexNumber, decodeOf}
+use Rattle.search.specs.Answers.{decodeOf}
 use Rattle.words.specs.Words.{floatAt}
 use Rattle.listing.specs.Lines.{headLine, refusedLine, windowLine}
-use Rattle.feed.specs.Parts.{Stop, end, failure, nextBytes, nextNumber, need}
+use Rattle.feed.specs.Parts.{end, Line, head, window, refusal}
+use Rattle.feed.specs.Lines.{linesOf}
 
--- behind the last window comes the end: a byte too many is refused, and so is a read that fails
-unfoldable pub ending : Stop → List ℕ → List ℕ
-ending end [] = []
-ending failure [] = refusedLine 10
-ending stop (b ∷ bs) = refusedLine 10
+-- of a window, what its decode answers
+unfoldable pub lineText : Line → List ℕ
+lineText (head n) = headLine n
+lineText (window k s index part) = windowLine k (decodeOf (tabulate 2310 (floatAt part)) s index)
+lineText (refusal number) = refusedLine number
 
--- a line for each window, numbered from k: its samples are 9,240 bytes
-unfoldable pub windowLines : Stop → Settings → ℕ → List ℕ → List ℕ → List ℕ
-windowLines stop s k [] input = ending stop input
-windowLines stop s k (index ∷ indices) input =
-    nextBytes 9240 input (λ part rest.
-    windowLine k (decodeOf (tabulate 2310 (floatAt part)) s index) ++ windowLines stop s (suc k) indices rest)
+unfoldable pub texts : List Line → List ℕ
+texts [] = []
+texts (line ∷ lines) = lineText line ++ texts lines
 
--- the sample count is 2,310 for each index; then the first line
-unfoldable pub samplesListing : Stop → Settings → List ℕ → List ℕ → List ℕ
-samplesListing stop s indices input =
-    nextNumber 4 input (λ count rest.
-    need (eqb count (2310 * length indices)) 10 (headLine (length indices) ++ windowLines stop s 0 indices rest))
-
--- n indices more, behind those that are there
-unfoldable pub indicesListing : Stop → Settings → ℕ → List ℕ → List ℕ → List ℕ
-indicesListing stop s zero indices input = samplesListing stop s indices input
-indicesListing stop s (suc n) indices input =
-    nextNumber 8 input (λ index rest. need (eqb (indexNumber index) 0) 6 (indicesListing stop s n (indices ++ (index ∷ [])) rest))
-
--- the settings in their order, how many windows, and what comes of them
-unfoldable pub listing : Stop → List ℕ → List ℕ
-listing stop input =
-    nextNumber 4 input (λ count rest. need (eqb count 4) 10
-    (nextNumber 4 rest (λ level rest. need (leb level 2) 4
-    (nextNumber 4 rest (λ bits rest. let threshold = ofBits binary32 bits in need (finite threshold) 5
-    (nextNumber 4 rest (λ bits rest. let second = ofBits binary32 bits in need (finite second) 5
-    (nextNumber 4 rest (λ distance rest.
-    let s : Settings = record { level = level; threshold = threshold; second = second; distance = distance } in
-    nextNumber 4 rest (λ windows rest. need (leb windows 64) 10 (indicesListing stop s windows [] rest)))))))))))
-
--- the listing of an input that comes to its end
 unfoldable pub listingOf : List ℕ → List ℕ
-listingOf input = listing end input
+listingOf input = texts (linesOf end input)

@@ -1,17 +1,15 @@
 -- What is known of an input so far, which part is wanted next and what becomes of it.
 -- Assumes nothing.
 use mathlib.Core.Bool.{Bool, cond}
-use mathlib.Core.List.{List, []}
+use mathlib.Core.List.{List}
 use Prim.Native.Nat.{ℕ, _+_, _*_}
 use lib.Dec.{eqb, leb, ltb}
 use lib.Ieee.{binary32, ofBits}
 use lib.Ieee.Scale.{finite}
 use lib.ListN.{length, getD, set, replicate}
-use Rattle.lists.specs.From.{tabulate}
 use Rattle.search.specs.declared.Settings.{Settings}
-use Rattle.search.specs.Answers.{indexNumber, decodeOf}
-use Rattle.words.specs.Words.{littleEndian, floatAt}
-use Rattle.listing.specs.Lines.{headLine, refusedLine, windowLine, textOf}
+use Rattle.search.specs.Answers.{indexNumber}
+use Rattle.words.specs.Words.{littleEndian}
 use Rattle.feed.specs.declared.Field.{Field}
 use Rattle.feed.specs.declared.Field.the-variants.{
   SettingsCount,
@@ -25,6 +23,9 @@ use Rattle.feed.specs.declared.Field.the-variants.{
 use Rattle.feed.specs.declared.Stage.{Stage}
 use Rattle.feed.specs.declared.Stage.the-variants.{Number, Index, Samples, End, Over}
 use Rattle.feed.specs.declared.State.{State}
+use Rattle.feed.specs.declared.Shot.{Shot}
+use Rattle.feed.specs.declared.Said.{Said}
+use Rattle.feed.specs.declared.Said.the-variants.{Nothing, Head, Window, Refused}
 use Rattle.feed.specs.declared.Fed.{Fed}
 
 -- how many bytes are wanted next; at the end one, to see that it does not come
@@ -52,14 +53,14 @@ blank stage =
 unfoldable pub startOf : State
 startOf = blank (Number SettingsCount)
 
--- ---- what becomes of a state, and what is printed
+-- ---- what becomes of a state, and what is said
 
-unfoldable pub says : List ℕ → State → Fed
-says line s = record { state = s; text = textOf line }
+abbrev pub says : Said → State → Fed
+says said s = record { state = s; said = said }
 
--- a refusal is printed, and all is over
-unfoldable pub refuses : ℕ → Fed
-refuses number = says (refusedLine number) (blank Over)
+-- a refusal, and all is over
+abbrev pub refuses : ℕ → Fed
+refuses number = says (Refused number) (blank Over)
 
 unfoldable pub provided : Bool → ℕ → Fed → Fed
 provided test refusal fed = cond test fed (refuses refusal)
@@ -84,29 +85,29 @@ samplesStage k windows = cond (ltb k windows) Samples End
 -- ---- what is done with a number of 32 bits; t: the settings so far
 
 abbrev pub numberFed : Field → State → Settings → ℕ → Fed
-numberFed SettingsCount s t n = provided (eqb n 4) 10 (says [] (told (Number Level) t s))
+numberFed SettingsCount s t n = provided (eqb n 4) 10 (says Nothing (told (Number Level) t s))
 numberFed Level s t n =
     provided (leb n 2) 4
-    (says []
+    (says Nothing
     (told (Number Threshold) (record { level = n; threshold = t .threshold; second = t .second; distance = t .distance }) s))
 numberFed Threshold s t n =
     let x = ofBits binary32 n in
     provided (finite x) 5
-    (says []
+    (says Nothing
     (told (Number Second) (record { level = t .level; threshold = x; second = t .second; distance = t .distance }) s))
 numberFed Second s t n =
     let x = ofBits binary32 n in
     provided (finite x) 5
-    (says []
+    (says Nothing
     (told (Number Distance) (record { level = t .level; threshold = t .threshold; second = x; distance = t .distance }) s))
 numberFed Distance s t n =
-    says []
+    says Nothing
     (told (Number WindowCount) (record { level = t .level; threshold = t .threshold; second = t .second; distance = n }) s)
 numberFed WindowCount s t n =
-    provided (leb n 64) 10 (says [] (counted (indexStage 0 n) n 0 s))
+    provided (leb n 64) 10 (says Nothing (counted (indexStage 0 n) n 0 s))
 numberFed SampleCount s t n =
     provided (eqb n (2310 * s .windows)) 10
-    (says (headLine (s .windows)) (counted (samplesStage 0 (s .windows)) (s .windows) 0 s))
+    (says (Head (s .windows)) (counted (samplesStage 0 (s .windows)) (s .windows) 0 s))
 
 -- ---- an index, a window
 
@@ -125,18 +126,16 @@ unfoldable pub indexFed : State → ℕ → Fed
 indexFed s index =
     provided (ltb (s .done) 64) 10
     (provided (eqb (indexNumber index) 0) 6
-    (says [] (kept (indexStage (s .done + 1) (s .windows)) index s)))
+    (says Nothing (kept (indexStage (s .done + 1) (s .windows)) index s)))
 
--- what is said of a window whose samples came
-unfoldable pub samplesLine : State → List ℕ → List ℕ
-samplesLine s part =
-    windowLine (s .done) (decodeOf (tabulate 2310 (floatAt part)) (s .settings) (getD (s .indices) (s .done) 0))
+-- the window whose samples came
+abbrev pub shotOf : State → Shot
+shotOf s = record { window = s .done; settings = s .settings; index = getD (s .indices) (s .done) 0 }
 
-unfoldable pub samplesFed : State → List ℕ → Fed
-samplesFed s part =
+unfoldable pub samplesFed : State → Fed
+samplesFed s =
     provided (ltb (s .done) 64) 10
-    (says (samplesLine s part)
-    (counted (samplesStage (s .done + 1) (s .windows)) (s .windows) (s .done + 1) s))
+    (says (Window (shotOf s)) (counted (samplesStage (s .done + 1) (s .windows)) (s .windows) (s .done + 1) s))
 
 -- ---- the whole
 
@@ -147,9 +146,9 @@ sized n part fed = provided (eqb (length part) n) 10 fed
 abbrev pub fedAt : Stage → State → List ℕ → Fed
 fedAt (Number f) s part = sized 4 part (numberFed f s (s .settings) (littleEndian part))
 fedAt Index s part = sized 8 part (indexFed s (littleEndian part))
-fedAt Samples s part = sized 9240 part (samplesFed s part)
-fedAt End s part = sized 0 part (says [] (blank Over))
-fedAt Over s part = says [] s
+fedAt Samples s part = sized 9240 part (samplesFed s)
+fedAt End s part = sized 0 part (says Nothing (blank Over))
+fedAt Over s part = says Nothing s
 
 -- the part that was wanted; a shorter one says that the input ended there
 unfoldable pub fedOf : State → List ℕ → Fed
@@ -157,4 +156,4 @@ fedOf s part = fedAt (s .stage) s part
 
 -- a part that could not be read
 unfoldable pub failedOf : State → Fed
-failedOf s = cond (eqb (wantedOf s) 0) (says [] s) (refuses 10)
+failedOf s = cond (eqb (wantedOf s) 0) (says Nothing s) (refuses 10)

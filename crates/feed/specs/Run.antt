@@ -1,19 +1,23 @@
--- WHAT IS PRINTED of an input that is fed in the parts that are wanted.
+-- WHAT IS SAID of an input that is fed in the parts that are wanted.
 -- Assumes nothing.
 use mathlib.Core.Bool.{cond}
-use mathlib.Core.List.{List, [], _++_}
+use mathlib.Core.List.{List, [], _∷_, _++_}
 use Prim.Native.Nat.{ℕ, zero, suc}
 use lib.Dec.{eqb, leb}
 use lib.ListN.{length, take, drop}
-use Rattle.listing.specs.declared.Text.{Text}
 use Rattle.feed.specs.declared.State.{State}
+use Rattle.feed.specs.declared.Said.{Said}
+use Rattle.feed.specs.declared.Said.the-variants.{Nothing, Head, Window, Refused}
 use Rattle.feed.specs.declared.Fed.{Fed}
-use Rattle.feed.specs.Parts.{Stop, end, failure}
+use Rattle.feed.specs.Parts.{Stop, end, failure, Line, head, window, refusal}
 use Rattle.feed.specs.Machine.{wantedOf, fedOf, failedOf}
 
--- the bytes of a text that count
-unfoldable pub shown : Text → List ℕ
-shown t = take (t .length) (t .bytes)
+-- the line that is said of a part, if any
+abbrev pub lineOf : Said → List ℕ → List Line
+lineOf Nothing part = []
+lineOf (Head n) part = head n ∷ []
+lineOf (Window w) part = window (w .window) (w .settings) (w .index) part ∷ []
+lineOf (Refused n) part = refusal n ∷ []
 
 -- fewer bytes are left than are wanted
 abbrev pub shortFed : Stop → State → List ℕ → Fed
@@ -24,9 +28,10 @@ shortFed failure s rest = failedOf s
 unfoldable pub readFed : Stop → State → List ℕ → Fed
 readFed stop s input = cond (leb (wantedOf s) (length input)) (fedOf s (take (wantedOf s) input)) (shortFed stop s input)
 
--- in so many steps: read, hand over, print, and again with what is left, until nothing is wanted
-unfoldable pub printed : ℕ → Stop → State → List ℕ → List ℕ
-printed zero stop s input = []
-printed (suc steps) stop s input =
+-- in so many steps: read, hand over, say, and again with what is left, until nothing is wanted
+unfoldable pub saidOf : ℕ → Stop → State → List ℕ → List Line
+saidOf zero stop s input = []
+saidOf (suc steps) stop s input =
+    let fed = readFed stop s input in
     cond (eqb (wantedOf s) 0) []
-    (shown (readFed stop s input .text) ++ printed steps stop (readFed stop s input .state) (drop (wantedOf s) input))
+    (lineOf (fed .said) (take (wantedOf s) input) ++ saidOf steps stop (fed .state) (drop (wantedOf s) input))

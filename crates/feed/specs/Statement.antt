@@ -1,16 +1,11 @@
--- WHAT IS PROVED of a program that reads, hands over and prints.
+-- WHAT IS PROVED of a program that reads, hands over and says what is to be said.
 -- Assumes nothing.
 use mathlib.Core.Path.{_≡_}
-use mathlib.Core.Bool.{true}
-use mathlib.Core.List.{List, [], _++_}
+use mathlib.Core.List.{List, [], _∷_, _++_}
 use mathlib.Core.Logic.{_≢_, _⊎_}
 use Prim.Native.Nat.{ℕ, _+_, _-_, _≤_, _<_}
-use lib.Ieee.Scale.{finite}
-use Rattle.lists.specs.From.{tabulate}
-use Rattle.search.specs.declared.Settings.{Settings}
-use Rattle.search.specs.Answers.{indexNumber, decodeOf}
-use Rattle.words.specs.Words.{floatAt}
-use Rattle.listing.specs.Lines.{refusedLine}
+use lib.ListN.{length}
+use Rattle.search.specs.Answers.{settingsNumber, indexNumber}
 use Rattle.feed.specs.declared.Field.{Field}
 use Rattle.feed.specs.declared.Field.the-variants.{
   SettingsCount,
@@ -24,10 +19,12 @@ use Rattle.feed.specs.declared.Field.the-variants.{
 use Rattle.feed.specs.declared.Stage.{Stage}
 use Rattle.feed.specs.declared.Stage.the-variants.{Number, Index, Samples, End, Over}
 use Rattle.feed.specs.declared.State.{State}
-use Rattle.feed.specs.Parts.{Stop, end, failure}
-use Rattle.feed.specs.Listing.{listing}
+use Rattle.feed.specs.declared.Said.the-variants.{Nothing}
+use Rattle.feed.specs.Parts.{Stop, end, failure, Line, head, window, refusal}
+use Rattle.feed.specs.Lines.{linesOf}
+use Rattle.feed.specs.Listing.{texts, listingOf}
 use Rattle.feed.specs.Machine.{startOf, wantedOf, says, refuses, fedOf, failedOf}
-use Rattle.feed.specs.Run.{printed}
+use Rattle.feed.specs.Run.{saidOf}
 
 -- how many parts are still to come, at most: there are up to 64 indices and up to 64 windows
 abbrev pub leftFrom : Field → ℕ
@@ -49,23 +46,34 @@ leftAt Over done = 0
 unfoldable pub leftOf : State → ℕ
 leftOf s = leftAt (s .stage) (s .done)
 
--- one listing is another, or the same with `refused 10` behind it
-abbrev pub Refused : List ℕ → List ℕ → Type 0
-Refused a b = (a ≡ b) ⊎ (a ≡ b ++ refusedLine 10)
+-- some lines are others, or the same with refusal 10 behind them
+abbrev pub OrRefused : List Line → List Line → Type 0
+OrRefused a b = (a ≡ b) ⊎ (a ≡ b ++ (refusal 10 ∷ []))
 
-pub record Lists : Type 0 where
-  -- An input that is fed in the wanted parts prints its listing, wherever and however it stops. 136 steps are always enough.
-  pub prints : (steps : ℕ) (stop : Stop) (input : List ℕ) → 136 ≤ steps → printed steps stop startOf input ≡ listing stop input
+-- a window's settings and its index are such that no decode refuses them, and its samples are as many bytes as a window has
+abbrev pub Accepted : Line → Type 0
+Accepted (head n) = Unit {0}
+Accepted (window k s index part) = (settingsNumber s ≡ 0) × (indexNumber index ≡ 0) × (length part ≡ 9240)
+Accepted (refusal n) = Unit {0}
+
+abbrev pub Every : (Line → Type 0) → List Line → Type 0
+Every P [] = Unit {0}
+Every P (l ∷ ls) = P l × Every P ls
+
+pub record Feeds : Type 0 where
+  -- Of an input that is fed in the wanted parts its lines are said, wherever and however it stops. 136 steps are always enough.
+  pub lines : (steps : ℕ) (stop : Stop) (input : List ℕ) → 136 ≤ steps → saidOf steps stop startOf input ≡ linesOf stop input
+  -- So a program that prints the text of each line as it is said prints the listing.
+  pub prints : (steps : ℕ) (input : List ℕ) → 136 ≤ steps → texts (saidOf steps end startOf input) ≡ listingOf input
+  -- Of an input that cannot be read any further the same is said as of one that ends there, with refusal 10 behind it where that end
+  -- would have been good.
+  pub broken : (input : List ℕ) → OrRefused (linesOf failure input) (linesOf end input)
+  -- What is said of a window no decode refuses.
+  pub accepted : (stop : Stop) (input : List ℕ) → Every Accepted (linesOf stop input)
   -- Whatever the state and the part, fewer are left after a step: a program that goes on while something is wanted ends.
   pub nearer : (s : State) (part : List ℕ) → wantedOf s ≢ 0 → leftOf (fedOf s part .state) < leftOf s
   pub nearer-failed : (s : State) → wantedOf s ≢ 0 → leftOf (failedOf s .state) < leftOf s
-  -- An input that cannot be read any further is listed as one that ends there, with `refused 10` where that end would have been good.
-  pub broken : (input : List ℕ) → Refused (listing failure input) (listing end input)
-  -- A part that could not be read adds `refused 10` to what was printed, and then all is over.
+  -- A part that could not be read adds refusal 10 to what was said, and then all is over.
   pub fails : (s : State) → wantedOf s ≢ 0 → failedOf s ≡ refuses 10
-  -- Once all is over nothing more is printed.
-  pub over : (s : State) (part : List ℕ) → wantedOf s ≡ 0 → (fedOf s part ≡ says [] s) × (failedOf s ≡ says [] s)
-  -- Settings and indices that a listing takes are refused by no decode: what is said of a window is a message or `none`.
-  pub answers : (part : List ℕ) (s : Settings) (index : ℕ)
-      → s .level ≤ 2 → finite (s .threshold) ≡ true → finite (s .second) ≡ true → indexNumber index ≡ 0
-      → decodeOf (tabulate 2310 (floatAt part)) s index .number ≤ 1
+  -- Once all is over nothing more is said.
+  pub over : (s : State) (part : List ℕ) → wantedOf s ≡ 0 → (fedOf s part ≡ says Nothing s) × (failedOf s ≡ says Nothing s)

@@ -1,6 +1,7 @@
 // What is done with the numbers before the samples, each checked as it is met.
 use crate::Fed;
 use crate::Field;
+use crate::Said;
 use crate::Stage;
 use crate::State;
 use crate::moves::counted;
@@ -10,7 +11,6 @@ use crate::moves::samples_stage;
 use crate::moves::silent;
 use crate::moves::told;
 use choice::settings::check_index;
-use listing::lines::head_line;
 use math::is_finite;
 use search::Settings;
 use words::float::float_of;
@@ -104,7 +104,7 @@ fn fed_sample_count(s: State, t: Settings, n: u32) -> Fed
     }
     Fed {
         state: counted(samples_stage(0, windows), windows, 0, s),
-        text: head_line(windows as u64),
+        said: Said::Head(windows),
     }
 }
 

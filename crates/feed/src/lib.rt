@@ -1,11 +1,10 @@
-// The listing of an input that comes in parts: which part is wanted next, what is done with it, what is printed.
-// Whoever reads hands over and prints; all else is here.
+// An input that comes in parts: which part is wanted next, what becomes of it, what is to be said.
+// Whoever reads hands over, and says it in its own way; all else is here.
 mod head;
 mod moves;
 pub mod parts;
 mod samples;
 
-use listing::Text;
 use search::Settings;
 
 // The numbers of 32 bits before the samples, in their order.
@@ -38,8 +37,23 @@ pub struct State {
     pub indices: [u64; 64],
 }
 
-// What becomes of a state, and what is to be printed.
+// A window whose samples are the part that came.
+pub struct Shot {
+    pub window: u32,
+    pub settings: Settings,
+    pub index: u64,
+}
+
+// What is to be said: so many windows are announced, a window came, or a refusal that ends it all.
+pub enum Said {
+    Nothing,
+    Head(u32),
+    Window(Shot),
+    Refused(u32),
+}
+
+// What becomes of a state, and what is to be said.
 pub struct Fed {
     pub state: State,
-    pub text: Text,
+    pub said: Said,
 }

@@ -1,13 +1,11 @@
 // What becomes of a state.
 use crate::Fed;
 use crate::Field;
+use crate::Said;
 use crate::Stage;
 use crate::State;
-use listing::Text;
-use listing::lines::refused_line;
 use search::Settings;
 ghost use mathlib.Core.Path.{_≡_};
-ghost use mathlib.Core.List.{[]};
 ghost use Rattle.feed.specs.Machine.{blank as blankOf, says, refuses as refusesWith, told as toldOf, counted as countedOf, indexStage, samplesStage};
 
 pub fn blank(stage: Stage) -> State
@@ -27,26 +25,23 @@ pub fn blank(stage: Stage) -> State
     }
 }
 
-// Nothing is printed.
+// Nothing is said.
 pub fn silent(state: State) -> Fed
-    ensures { λ r. ⌜ r ≡ says [] state ⌝ }
+    ensures { λ r. ⌜ r ≡ says Said.Nothing state ⌝ }
 {
     Fed {
         state,
-        text: Text {
-            length: 0,
-            bytes: [0u8; 160],
-        },
+        said: Said::Nothing,
     }
 }
 
-// A refusal is printed, and all is over.
-pub fn refuses(number: u64) -> Fed
+// A refusal, and all is over.
+pub fn refuses(number: u32) -> Fed
     ensures { λ r. ⌜ r ≡ refusesWith number ⌝ }
 {
     Fed {
         state: blank(Stage::Over),
-        text: refused_line(number),
+        said: Said::Refused(number),
     }
 }
 

@@ -1,6 +1,7 @@
-// An input in parts: what is wanted, what is done with it, what is printed.
+// An input in parts: what is wanted, what becomes of it, what is to be said.
 use crate::Fed;
 use crate::Field;
+use crate::Said;
 use crate::Stage;
 use crate::State;
 use crate::head::fed_index;
@@ -12,7 +13,6 @@ use crate::samples::fed_samples;
 use words::numbers::joined;
 use words::numbers::long;
 ghost use mathlib.Core.Path.{_≡_};
-ghost use mathlib.Core.List.{[]};
 ghost use lib.ListN.{length};
 ghost use Rattle.words.specs.Words.{littleEndian};
 ghost use Rattle.feed.specs.Machine.{startOf, wantedOf, fedOf, failedOf, numberFed, indexFed, samplesFed, sized, says, blank as blankOf};
@@ -80,16 +80,16 @@ fn with_index(state: State, part: &[u8]) -> Fed
 }
 
 fn with_samples(state: State, part: &[u8]) -> Fed
-    ensures { λ r. ⌜ r ≡ sized 9240 (now (part .entry)) (samplesFed state (now (part .entry))) ⌝ }
+    ensures { λ r. ⌜ r ≡ sized 9240 (now (part .entry)) (samplesFed state) ⌝ }
 {
     if part.len() != 9240 {
         return refuses(10);
     }
-    fed_samples(state, part)
+    fed_samples(state)
 }
 
 fn with_end(part: &[u8]) -> Fed
-    ensures { λ r. ⌜ r ≡ sized 0 (now (part .entry)) (says [] (blankOf Stage.Over)) ⌝ }
+    ensures { λ r. ⌜ r ≡ sized 0 (now (part .entry)) (says Said.Nothing (blankOf Stage.Over)) ⌝ }
 {
     if part.len() != 0 {
         return refuses(10);

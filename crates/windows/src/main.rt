@@ -1,9 +1,12 @@
-// Reads standard input in the parts that are wanted, hands each over and writes what is to be printed. What that is stands in
-// `feed`; docs/WINDOWS.md has both formats.
-use feed::Fed;
+// Reads standard input in the parts that are wanted, hands each over and writes what is to be said. What that is stands in `feed`;
+// docs/WINDOWS.md has both formats.
+mod handed;
+mod text;
+
+use crate::handed::Step;
+use crate::handed::broken_off;
+use crate::handed::taken;
 use feed::State;
-use feed::parts::failed;
-use feed::parts::feed;
 use feed::parts::start;
 use feed::parts::wanted;
 use libc::STDIN_FILENO;
@@ -43,27 +46,27 @@ fn read_part(space: &mut [u8], wanted: usize) -> Came
     Came::Bytes(n)
 }
 
-fn hand_over(state: State, space: &[u8], n: usize) -> Fed
+fn hand_over(state: State, space: &[u8], n: usize) -> Step
     requires { ⌜ n ≤ length (now space) ⌝ }
     ensures { λ r. ⌜ (wantedOf state ≢ 0 → leftOf (r .state) < leftOf state) ⌝ }
 {
-    feed(state, &space[..n])
+    taken(state, &space[..n])
 }
 
 // Reads as many bytes as are wanted, and hands them over.
-fn step_in(state: State, space: &mut [u8]) -> Fed
+fn step_in(state: State, space: &mut [u8]) -> Step
     requires { ⌜ length (now space) ≡ 9240 ⌝ }
     ensures { λ r. ⌜ (wantedOf state ≢ 0 → leftOf (r .state) < leftOf state) ⌝ }
 {
     let came = read_part(space, wanted(state));
     match came {
         Came::Bytes(n) => hand_over(state, space, n),
-        Came::Failure => failed(state),
+        Came::Failure => broken_off(state),
     }
 }
 
 // No part is longer than the samples of a window.
-fn step(state: State) -> Fed
+fn step(state: State) -> Step
     ensures { λ r. ⌜ (wantedOf state ≢ 0 → leftOf (r .state) < leftOf state) ⌝ }
 {
     let mut space = [0u8; 9240];
@@ -85,10 +88,10 @@ fn print(text: Text) {
 fn main() {
     let mut state = start();
     while wanted(state) > 0 {
-        let fed = step(state);
-        let text = fed.text;
+        let step = step(state);
+        let text = step.text;
         print(text);
-        let next = fed.state;
+        let next = step.state;
         state = next;
     }
 }

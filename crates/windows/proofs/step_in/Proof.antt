@@ -2,6 +2,7 @@
 -- Assumes nothing.
 use native.Mathlib.Omega.{arith}
 use Rattle.feed.proofs.Left.{nearer-failed, wanted-most}
+use Rattle.windows.specs.Printed.{brokenOff}
 use Rattle.windows.proofs.Within.{within}
 use borrow.Author.Needs.{needs}
 use Rattle.windows.proofs.step_in.Statement.{statement}
@@ -22,8 +23,8 @@ hand-over-requires c κs = within (c .before .before .came .given .1) (c .before
 enum-told : tie.Need-enum-told
 enum-told c = search needs
 
-failed-requires : tie.Need-failed-requires
-failed-requires c κs = search needs
+broken-off-requires : tie.Need-broken-off-requires
+broken-off-requires c κs = search needs
 
 same-length : tie.Need-same-length
 same-length c = search needs
@@ -35,7 +36,8 @@ same-length-2 : tie.Need-same-length-2
 same-length-2 c = search needs
 
 returns-2 : tie.Need-returns-2
-returns-2 c = λ some. rw (c .failed .ensures) (nearer-failed _ some)
+unfolding brokenOff
+returns-2 c = λ some. rw (c .broken-off .ensures) (nearer-failed _ some)
 
 pub step-in-spec : {M : Type 1} → statement M
 step-in-spec =
@@ -46,7 +48,7 @@ step-in-spec =
     enum-known-came
     hand-over-requires
     enum-told
-    failed-requires
+    broken-off-requires
     same-length
     returns
     same-length-2

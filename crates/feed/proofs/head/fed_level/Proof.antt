@@ -1,9 +1,8 @@
 -- `feed::head::fed_level` meets its contract.
 -- Assumes nothing.
-use mathlib.Core.Path.{ap, _∙_}
-use mathlib.Core.List.{[]}
+use mathlib.Core.Path.{_∙_}
 use borrow.Author.Tests.{le-leb, lt-leb}
-use Rattle.feed.specs.Machine.{says, provided}
+use Rattle.feed.specs.Machine.{provided}
 use borrow.Author.Needs.{needs}
 use Rattle.feed.proofs.head.fed_level.Statement.{statement}
 use Rattle.feed.proofs.head.fed_level.Tie as tie
@@ -23,7 +22,7 @@ silent-requires c κs = search needs
 
 returns-2 : tie.Need-returns-2
 unfolding provided
-returns-2 c = simp (le-leb _ _ (c .before .before .if1 .left)) (c .silent .ensures ∙ ap (says []) (c .before .told .ensures))
+returns-2 c = simp (le-leb _ _ (c .before .before .if1 .left)) (c .silent .ensures ∙ rw (c .before .told .ensures))
 
 pub fed-level-spec : {M : Type 1} → statement M
 fed-level-spec =

@@ -1,7 +1,7 @@
 -- `feed::head::fed_sample_count` meets its contract.
 -- Assumes nothing.
 use borrow.Author.Tests.{eq-eqb, ne-eqb}
-use Rattle.feed.specs.Machine.{says, provided}
+use Rattle.feed.specs.Machine.{provided}
 use borrow.Author.Needs.{needs}
 use Rattle.feed.proofs.head.fed_sample_count.Statement.{statement}
 use Rattle.feed.proofs.head.fed_sample_count.Tie as tie
@@ -25,17 +25,11 @@ samples-stage-requires c κs = search needs
 counted-requires : tie.Need-counted-requires
 counted-requires c κs = search needs
 
-cast-head-line : tie.Need-cast-head-line
-cast-head-line c = search needs
-
-head-line-requires : tie.Need-head-line-requires
-head-line-requires c κs = search needs
-
 returns-2 : tie.Need-returns-2
-unfolding provided says
+unfolding provided
 returns-2 c =
-    simp (eq-eqb _ _ (c .before .before .before .if1 .left))
-    (rw (c .before .counted .ensures, c .before .before .samples-stage .ensures, c .head-line .ensures))
+    simp (eq-eqb _ _ (c .before .before .if1 .left))
+    (rw (c .counted .ensures, c .before .samples-stage .ensures))
 
 pub fed-sample-count-spec : {M : Type 1} → statement M
 fed-sample-count-spec =
@@ -47,6 +41,4 @@ fed-sample-count-spec =
     returns
     samples-stage-requires
     counted-requires
-    cast-head-line
-    head-line-requires
     returns-2)

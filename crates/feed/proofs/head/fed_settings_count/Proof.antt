@@ -1,9 +1,8 @@
 -- `feed::head::fed_settings_count` meets its contract.
 -- Assumes nothing.
-use mathlib.Core.Path.{ap, _∙_}
-use mathlib.Core.List.{[]}
+use mathlib.Core.Path.{_∙_}
 use borrow.Author.Tests.{eq-eqb, ne-eqb}
-use Rattle.feed.specs.Machine.{says, provided}
+use Rattle.feed.specs.Machine.{provided}
 use borrow.Author.Needs.{needs}
 use Rattle.feed.proofs.head.fed_settings_count.Statement.{statement}
 use Rattle.feed.proofs.head.fed_settings_count.Tie as tie
@@ -23,7 +22,7 @@ silent-requires c κs = search needs
 
 returns-2 : tie.Need-returns-2
 unfolding provided
-returns-2 c = simp (eq-eqb _ _ (c .before .before .if1 .left)) (c .silent .ensures ∙ ap (says []) (c .before .told .ensures))
+returns-2 c = simp (eq-eqb _ _ (c .before .before .if1 .left)) (c .silent .ensures ∙ rw (c .before .told .ensures))
 
 pub fed-settings-count-spec : {M : Type 1} → statement M
 fed-settings-count-spec =

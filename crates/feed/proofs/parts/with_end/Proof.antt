@@ -1,9 +1,8 @@
 -- `feed::parts::with_end` meets its contract.
 -- Assumes nothing.
-use mathlib.Core.Path.{ap, _∙_}
-use mathlib.Core.List.{[]}
+use mathlib.Core.Path.{_∙_}
 use borrow.Author.Tests.{eq-eqb, ne-eqb}
-use Rattle.feed.specs.Machine.{says, provided, sized}
+use Rattle.feed.specs.Machine.{provided, sized}
 use borrow.Author.Needs.{needs}
 use Rattle.feed.proofs.parts.with_end.Statement.{statement}
 use Rattle.feed.proofs.parts.with_end.Tie as tie
@@ -23,7 +22,7 @@ silent-requires c κs = search needs
 
 returns-2 : tie.Need-returns-2
 unfolding provided sized
-returns-2 c = simp (eq-eqb _ _ (c .before .before .if1 .left)) (c .silent .ensures ∙ ap (says []) (c .before .blank .ensures))
+returns-2 c = simp (eq-eqb _ _ (c .before .before .if1 .left)) (c .silent .ensures ∙ rw (c .before .blank .ensures))
 
 pub with-end-spec : {M : Type 1} → statement M
 with-end-spec =

@@ -1,7 +1,7 @@
 -- `feed::samples::fed_samples` meets its contract.
 -- Assumes nothing.
 use borrow.Author.Tests.{lt-ltb, le-ltb}
-use Rattle.feed.specs.Machine.{says, provided, samplesFed}
+use Rattle.feed.specs.Machine.{provided, samplesFed}
 use borrow.Author.Needs.{needs}
 use Rattle.feed.proofs.samples.fed_samples.Statement.{statement}
 use Rattle.feed.proofs.samples.fed_samples.Tie as tie
@@ -25,14 +25,14 @@ add-counted c = search needs
 counted-requires : tie.Need-counted-requires
 counted-requires c κs = search needs
 
-line-of-requires : tie.Need-line-of-requires
-line-of-requires c κs = search needs
+shot-requires : tie.Need-shot-requires
+shot-requires c κs = search needs
 
 returns-2 : tie.Need-returns-2
-unfolding provided samplesFed says
+unfolding provided samplesFed
 returns-2 c =
     simp (lt-ltb _ _ (c .before .before .before .if1 .left))
-    (rw (c .before .counted .ensures, c .before .before .samples-stage .ensures, c .line-of .ensures))
+    (rw (c .before .counted .ensures, c .before .before .samples-stage .ensures, c .shot .ensures))
 
 pub fed-samples-spec : {M : Type 1} → statement M
 fed-samples-spec =
@@ -44,5 +44,5 @@ fed-samples-spec =
     samples-stage-requires
     add-counted
     counted-requires
-    line-of-requires
+    shot-requires
     returns-2)

@@ -1,11 +1,11 @@
--- `feed::samples::decoded` meets its contract.
+-- `windows::text::decoded` meets its contract.
 -- Assumes nothing.
 use mathlib.Core.Path.{ap, _∙_}
 use Rattle.search.specs.declared.Answer.{Answer}
 use Rattle.listing.specs.Lines.{windowLine, textOf}
 use borrow.Author.Needs.{needs}
-use Rattle.feed.proofs.samples.decoded.Statement.{statement}
-use Rattle.feed.proofs.samples.decoded.Tie as tie
+use Rattle.windows.proofs.text.decoded.Statement.{statement}
+use Rattle.windows.proofs.text.decoded.Tie as tie
 
 decode-requires : tie.Need-decode-requires
 decode-requires c κs = search needs

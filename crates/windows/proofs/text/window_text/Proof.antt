@@ -1,14 +1,14 @@
--- `feed::samples::listed` meets its contract.
+-- `windows::text::window_text` meets its contract.
 -- Assumes nothing.
 use mathlib.Core.Path.{_∙_, ap}
 use mathlib.Core.List.{List}
 use lib.Ieee.{Float}
 use Rattle.search.specs.Answers.{decodeOf}
 use Rattle.listing.specs.Lines.{windowLine, textOf}
-use Rattle.feed.proofs.Bytes.{floats-done}
+use Rattle.windows.proofs.Texts.{floats-done}
 use borrow.Author.Needs.{needs}
-use Rattle.feed.proofs.samples.listed.Statement.{statement}
-use Rattle.feed.proofs.samples.listed.Tie as tie
+use Rattle.windows.proofs.text.window_text.Statement.{statement}
+use Rattle.windows.proofs.text.window_text.Tie as tie
 
 slice-aggregate-window-floats : tie.Need-slice-aggregate-window-floats
 slice-aggregate-window-floats c = search needs
@@ -26,7 +26,7 @@ returns c =
     ∙ ap (λ (x : List Float). textOf (windowLine (a .k) (decodeOf x (a .s) (a .index))))
     (floats-done _ _ (c .before .before .before .before .before .before .pre) (search needs) (c .before .before .before .window-floats .ensures))
 
-pub listed-spec : {M : Type 1} → statement M
-listed-spec =
+pub window-text-spec : {M : Type 1} → statement M
+window-text-spec =
     tie.close
     (tie.spec slice-aggregate-window-floats window-floats-requires decoded-requires returns)

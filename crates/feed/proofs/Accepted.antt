@@ -1,0 +1,96 @@
+-- What is said of a window no decode refuses.
+-- Assumes nothing.
+use mathlib.Core.Path.{_≡_, refl}
+use mathlib.Core.Bool.{Bool, true, false, cond}
+use mathlib.Core.List.{List, [], _∷_, _++_}
+use Prim.Native.Nat.{ℕ, zero, suc, _*_}
+use borrow.Author.Tests.{leb-true, eqb-true}
+use lib.Dec.{eqb, leb}
+use lib.Ieee.{binary32, ofBits}
+use lib.Ieee.Scale.{finite}
+use lib.ListN.{length, take, drop}
+use lib.Seq.{length-take-le}
+use Rattle.search.specs.declared.Settings.{Settings}
+use Rattle.search.specs.Answers.{settingsNumber, indexNumber}
+use Rattle.words.specs.Words.{littleEndian}
+use Rattle.feed.specs.Parts.{Stop, end, failure, Line, refusal, nextBytes, nextNumber, need}
+use Rattle.feed.specs.Lines.{ending, windowLines, samplesLines, indicesLines, linesOf}
+use Rattle.feed.specs.Statement.{Accepted, Every}
+
+abbrev All : List Line → Type 0
+All lines = Every Accepted lines
+
+all-bytes : (n : ℕ) (input : List ℕ) (h : List ℕ → List ℕ → List Line)
+    → ((part rest : List ℕ) → length part ≡ n → All (h part rest)) → All (nextBytes n input h)
+unfolding nextBytes
+all-bytes n input h p = go (leb n (length input)) refl where
+  go : (b : Bool) → leb n (length input) ≡ b → All (cond b (h (take n input) (drop n input)) (refusal 10 ∷ []))
+  go true e = p (take n input) (drop n input) (length-take-le n input (leb-true n (length input) e))
+  go false e = (tt, tt)
+
+all-number : (n : ℕ) (input : List ℕ) (h : ℕ → List ℕ → List Line) → ((x : ℕ) (rest : List ℕ) → All (h x rest))
+    → All (nextNumber n input h)
+unfolding nextNumber
+all-number n input h p = all-bytes n input (λ part rest. h (littleEndian part) rest) (λ part rest e. p (littleEndian part) rest)
+
+all-need : (t : Bool) (number : ℕ) (lines : List Line) → (t ≡ true → All lines) → All (need t number lines)
+unfolding need
+all-need true number lines p = p refl
+all-need false number lines p = (tt, tt)
+
+all-end : (stop : Stop) (input : List ℕ) → All (ending stop input)
+unfolding ending
+all-end end [] = tt
+all-end failure [] = (tt, tt)
+all-end end (b ∷ bs) = (tt, tt)
+all-end failure (b ∷ bs) = (tt, tt)
+
+-- every index of a list is taken
+abbrev Taken : List ℕ → Type 0
+Taken [] = Unit {0}
+Taken (index ∷ indices) = (indexNumber index ≡ 0) × Taken indices
+
+taken-more : (indices : List ℕ) (index : ℕ) → Taken indices → indexNumber index ≡ 0 → Taken (indices ++ (index ∷ []))
+taken-more [] index t e = (e, tt)
+taken-more (i ∷ is) index t e = (t .0, taken-more is index (t .1) e)
+
+module _ (stop : Stop) (s : Settings) (good : settingsNumber s ≡ 0) where
+  all-windows : (k : ℕ) (indices input : List ℕ) → Taken indices → All (windowLines stop s k indices input)
+  unfolding windowLines
+  all-windows k [] input t = all-end stop input
+  all-windows k (index ∷ indices) input t =
+      all-bytes 9240 input _ (λ part rest e. ((good, t .0, e), all-windows (suc k) indices rest (t .1)))
+
+  all-samples : (indices input : List ℕ) → Taken indices → All (samplesLines stop s indices input)
+  unfolding samplesLines
+  all-samples indices input t =
+      all-number 4 input _
+      (λ count rest. all-need (eqb count (2310 * length indices)) 10 _ (λ e. (tt, all-windows 0 indices rest t)))
+
+  all-indices : (n : ℕ) (indices input : List ℕ) → Taken indices → All (indicesLines stop s n indices input)
+  unfolding indicesLines
+  all-indices zero indices input t = all-samples indices input t
+  all-indices (suc n) indices input t =
+      all-number 8 input _
+      (λ index rest.
+      all-need (eqb (indexNumber index) 0) 6 _
+      (λ e. all-indices n (indices ++ (index ∷ [])) rest (taken-more indices index t (eqb-true (indexNumber index) 0 e))))
+
+-- the checks of a listing are those of the settings
+settings-good : (s : Settings) → leb (s .level) 2 ≡ true → finite (s .threshold) ≡ true → finite (s .second) ≡ true → settingsNumber s ≡ 0
+unfolding settingsNumber
+settings-good s a b c = simp (a, b, c)
+
+pub accepted : (stop : Stop) (input : List ℕ) → Every Accepted (linesOf stop input)
+unfolding linesOf
+accepted stop input =
+    all-number 4 input _ (λ count rest. all-need (eqb count 4) 10 _ (λ four.
+    all-number 4 rest _ (λ level rest. all-need (leb level 2) 4 _ (λ a.
+    all-number 4 rest _ (λ first rest. all-need (finite (ofBits binary32 first)) 5 _ (λ b.
+    all-number 4 rest _ (λ second rest. all-need (finite (ofBits binary32 second)) 5 _ (λ c.
+    all-number 4 rest _ (λ distance rest.
+    all-number 4 rest _ (λ windows rest. all-need (leb windows 64) 10 _ (λ few.
+    all-indices stop _
+    (settings-good
+    (record { level = level; threshold = ofBits binary32 first; second = ofBits binary32 second; distance = distance }) a b c)
+    windows [] rest tt)))))))))))

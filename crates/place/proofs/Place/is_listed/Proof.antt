@@ -20,10 +20,11 @@ returns-3 c = sym (listed-not 31 (c .before .before .before .before .before .bef
 returns-4 : tie.Need-returns-4
 unfolding listed
 returns-4 c =
+    let p = c .before .before .before .before .before .before .before .before .before .args .self in
     rw (
-      le-leb _ _ (c .before .before .before .before .before .before .before .if1 .left),
-      le-leb _ _ (c .before .before .before .before .before .if2 .left),
-      le-leb _ _ (c .before .before .if3 .left),
+      le-leb 1 (p .bit) (omega arith),
+      le-leb (p .bit) 31 (omega arith),
+      le-leb (p .phase) 3 (omega arith),
     )
 
 pub is-listed-spec : {M : Type 1} → statement M

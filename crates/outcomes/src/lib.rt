@@ -1,4 +1,5 @@
 // Every public contract fixes its outcome: the law and the table of its uses stand in proofs/.
+// `exchange` is a sample. `samples` has its code under contracts that leave something open, which are not fixed, and in other words, which is.
 ghost use mathlib.Core.Path.{_≡_};
 ghost use Rattle.outcomes.specs.Sample.{exchanged};
 

@@ -1,7 +1,8 @@
-// The code of `exchange` under other contracts: three that leave something open, and one that says the same in other words.
+// The code of `exchange` under other contracts. It meets each: three leave something open, and the last says the same in other words.
 ghost use mathlib.Core.Path.{_≡_};
 ghost use Rattle.outcomes.specs.Sample.{exchanged};
 
+// what the lent memory holds afterwards
 pub fn memory_open(held: &mut u8, x: u8) -> u8
     ensures { λ r. ⌜ r ≡ now (held .entry) ⌝ }
 {
@@ -10,14 +11,16 @@ pub fn memory_open(held: &mut u8, x: u8) -> u8
     old
 }
 
+// what is answered
 pub fn answer_open(held: &mut u8, x: u8) -> u8
-    ensures { λ r. ⌜ now (held .exit) ≡ x ⌝ }
+    ensures { λ _. ⌜ now (held .exit) ≡ x ⌝ }
 {
     let old = *held;
     *held = x;
     old
 }
 
+// what a call with another byte than 1 does
 pub fn calls_left_out(held: &mut u8, x: u8) -> u8
     requires { ⌜ x ≡ 1 ⌝ }
     ensures { λ r. ⌜ (r, now (held .exit)) ≡ exchanged (now (held .entry)) x ⌝ }
@@ -27,9 +30,10 @@ pub fn calls_left_out(held: &mut u8, x: u8) -> u8
     old
 }
 
+// nothing: two equations, each turned round
 pub fn reworded(held: &mut u8, x: u8) -> u8
-    ensures { λ r. ⌜ now (held .exit) ≡ x ⌝ }
-    ensures { λ r. ⌜ r ≡ now (held .entry) ⌝ }
+    ensures { λ _. ⌜ x ≡ now (held .exit) ⌝ }
+    ensures { λ r. ⌜ now (held .entry) ≡ r ⌝ }
 {
     let old = *held;
     *held = x;

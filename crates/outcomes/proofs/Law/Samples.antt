@@ -1,6 +1,6 @@
 -- The contracts of the samples beside `exchange`: those that leave something open are not fixed, the one in other words is.
 -- Assumes nothing.
-use mathlib.Core.Path.{refl, ap, ap₂}
+use mathlib.Core.Path.{refl, sym, ap, ap₂}
 use mathlib.Core.Logic.{∥∥₁-prop, ∥∥₁-elim, ∥∥₁-map, _≢_}
 use mathlib.Core.List.{[]}
 use mathlib.Core.HLevel.{Σ-set, prop→set, ⊥-prop}
@@ -74,5 +74,5 @@ reworded-fixed = record {
   proved = λ M 𝓤 H A mem run. refl;
   fixed = λ M 𝓤 H A mem run κs a. permits-one reworded.ended _ 𝓤 κs a _ (now (a .0), (a .1 .0, (tt, tt)))
       (λ r. Σ-set ℕ-set (λ x. Σ-set ℕ-set (λ w. prop→set (λ u v. refl)))) (λ g. refl) (λ r ws p.
-      ∥∥₁-elim p ∥∥₁-prop (λ t. ∥∥₁-map (sat-both 𝓤 _ _ (t .1)) (λ e. ap₂ (λ r w. (r, (w, (tt, tt)))) (e .1) (e .0))));
+      ∥∥₁-elim p ∥∥₁-prop (λ t. ∥∥₁-map (sat-both 𝓤 _ _ (t .1)) (λ e. ap₂ (λ r w. (r, (w, (tt, tt)))) (sym (e .1)) (sym (e .0)))));
 }

@@ -12,9 +12,9 @@ use Rattle.outcomes.specs.Outcome.{Clause, Contract, Lifetimes, Given, S
 use Rattle.outcomes.specs.Open.{OpenAt, LeftOutAt, Open, LeftOut}
 
 -- a true fact can hold, and so can what asks nothing
-pub fact-sat : {M : Type 1} (𝓤 : URA M) (φ : Type 0) → φ → sProp·Sat (𝓤 .op) (fact 𝓤 φ)
+pub fact-sat : {M : Type 1} (𝓤 : URA M) {φ : Type 0} → φ → sProp·Sat (𝓤 .op) (fact 𝓤 φ)
 unfolding sProp·Sat
-fact-sat 𝓤 φ x = ∣ (𝓤 .one, ∣ (x, tt) ∣₁) ∣₁
+fact-sat 𝓤 x = ∣ (𝓤 .one, ∣ (x, tt) ∣₁) ∣₁
 
 emp-sat : {M : Type 1} (𝓤 : URA M) → sProp·Sat (𝓤 .op) (emp 𝓤)
 unfolding sProp·Sat

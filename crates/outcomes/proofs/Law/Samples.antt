@@ -1,6 +1,6 @@
 -- The contracts of the samples beside `exchange`: those that leave something open are not fixed, the one in other words is.
 -- Assumes nothing.
-use mathlib.Core.Path.{refl, sym, ap, ap₂}
+use mathlib.Core.Path.{_≡_, refl, sym, ap, ap₂}
 use mathlib.Core.Logic.{∥∥₁-prop, ∥∥₁-elim, ∥∥₁-map, _≢_}
 use mathlib.Core.List.{[]}
 use mathlib.Core.HLevel.{Σ-set, prop→set, ⊥-prop}
@@ -31,8 +31,8 @@ memory-is-open M 𝓤 H A mem run κs a = record {
   r′ = now (a .0);
   ws = (0, (tt, tt));
   ws′ = (1, (tt, tt));
-  permitted = ∣ (tt, fact-sat 𝓤 _ refl) ∣₁;
-  permitted′ = ∣ (tt, fact-sat 𝓤 _ refl) ∣₁;
+  permitted = ∣ (tt, fact-sat 𝓤 refl) ∣₁;
+  permitted′ = ∣ (tt, fact-sat 𝓤 refl) ∣₁;
   differ = λ e. omega (arith, ap (λ o. o .1 .0) e);
 }
 
@@ -46,8 +46,8 @@ answer-is-open M 𝓤 H A mem run κs a = record {
   r′ = 1;
   ws = (a .1 .0, (tt, tt));
   ws′ = (a .1 .0, (tt, tt));
-  permitted = ∣ (tt, fact-sat 𝓤 _ refl) ∣₁;
-  permitted′ = ∣ (tt, fact-sat 𝓤 _ refl) ∣₁;
+  permitted = ∣ (tt, fact-sat 𝓤 refl) ∣₁;
+  permitted′ = ∣ (tt, fact-sat 𝓤 refl) ∣₁;
   differ = λ e. omega (arith, ap (λ o. o .0) e);
 }
 
@@ -74,5 +74,8 @@ reworded-fixed = record {
   proved = λ M 𝓤 H A mem run. refl;
   fixed = λ M 𝓤 H A mem run κs a. permits-one reworded.ended _ 𝓤 κs a _ (now (a .0), (a .1 .0, (tt, tt)))
       (λ r. Σ-set ℕ-set (λ x. Σ-set ℕ-set (λ w. prop→set (λ u v. refl)))) (λ g. refl) (λ r ws p.
-      ∥∥₁-elim p ∥∥₁-prop (λ t. ∥∥₁-map (sat-both 𝓤 _ _ (t .1)) (λ e. ap₂ (λ r w. (r, (w, (tt, tt)))) (sym (e .1)) (sym (e .0)))));
+      ∥∥₁-elim p ∥∥₁-prop (λ t. ∥∥₁-map (sat-both 𝓤 _ _ (t .1)) (λ e.
+      let answered : r ≡ now (a .0) = sym (e .1) in
+      let left : ws .0 ≡ a .1 .0 = sym (e .0) in
+      ap₂ (λ r w. (r, (w, (tt, tt)))) answered left)));
 }

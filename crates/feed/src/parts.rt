@@ -10,8 +10,8 @@ use crate::moves::blank;
 use crate::moves::refuses;
 use crate::moves::silent;
 use crate::samples::fed_samples;
-use words::numbers::joined;
 use words::numbers::long;
+use words::numbers::word;
 ghost use mathlib.Core.Path.{_≡_};
 ghost use lib.ListN.{length};
 ghost use Rattle.words.specs.Words.{littleEndian};
@@ -42,7 +42,7 @@ fn word_of(part: &[u8]) -> u32
     requires { ⌜ length (now part) ≡ 4 ⌝ }
     ensures { λ r. ⌜ r ≡ littleEndian (now (part .entry)) ⌝ }
 {
-    joined(part[0], part[1], part[2], part[3])
+    word([part[0], part[1], part[2], part[3]])
 }
 
 fn long_of(part: &[u8]) -> u64

@@ -6,31 +6,31 @@ use borrow.Author.Needs.{needs}
 use Rattle.feed.proofs.parts.word_of.Statement.{statement}
 use Rattle.feed.proofs.parts.word_of.Tie as tie
 
-shared-slice-read-joined : tie.Need-shared-slice-read-joined
-shared-slice-read-joined c = search needs
+shared-slice-read-t3 : tie.Need-shared-slice-read-t3
+shared-slice-read-t3 c = search needs
 
-shared-slice-read-joined-2 : tie.Need-shared-slice-read-joined-2
-shared-slice-read-joined-2 c = search needs
+shared-slice-read-t5 : tie.Need-shared-slice-read-t5
+shared-slice-read-t5 c = search needs
 
-shared-slice-read-joined-3 : tie.Need-shared-slice-read-joined-3
-shared-slice-read-joined-3 c = search needs
+shared-slice-read-t7 : tie.Need-shared-slice-read-t7
+shared-slice-read-t7 c = search needs
 
-shared-slice-read-joined-4 : tie.Need-shared-slice-read-joined-4
-shared-slice-read-joined-4 c = search needs
+shared-slice-read-t9 : tie.Need-shared-slice-read-t9
+shared-slice-read-t9 c = search needs
 
-joined-requires : tie.Need-joined-requires
-joined-requires c κs = search needs
+word-requires : tie.Need-word-requires
+word-requires c κs = search needs
 
 returns : tie.Need-returns
-returns c = c .joined .ensures ∙ word-is _ (c .before .before .before .before .before .before .pre)
+returns c = c .word .ensures ∙ word-is _ (c .before .before .before .before .before .before .pre)
 
 pub word-of-spec : {M : Type 1} → statement M
 word-of-spec =
     tie.close
     (tie.spec
-    shared-slice-read-joined
-    shared-slice-read-joined-2
-    shared-slice-read-joined-3
-    shared-slice-read-joined-4
-    joined-requires
+    shared-slice-read-t3
+    shared-slice-read-t5
+    shared-slice-read-t7
+    shared-slice-read-t9
+    word-requires
     returns)

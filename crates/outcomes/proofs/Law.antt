@@ -1,5 +1,7 @@
 -- A contract that is one equation fixes its outcome.
 -- Assumes nothing.
+pub mod Open
+pub mod Samples
 use mathlib.Core.Path.{_≡_, refl, sym, _∙_, ap, subst}
 use mathlib.Core.Logic.{∥∥₁-prop, ∥∥₁-elim, ∥∥₁-map}
 use mathlib.Core.List.{List, [], _∷_}
@@ -14,11 +16,11 @@ use denote.Exit.{yes}
 use denote.Ref.{RefT, now}
 use denote.Signature.{typesAt}
 use denote.Triple.End.{all}
-use denote.Triple.Clauses.{Ended, Lasts, AtExit, atExit, closing}
-use Rattle.outcomes.specs.Outcome.{Clause, Lifetimes, Given, Answer, Sight, Outcome, outcome, Fixed}
+use denote.Triple.Clauses.{Ended, ClausesAt, Lasts, AtExit, atExit, closing}
+use Rattle.outcomes.specs.Outcome.{Clause, Lifetimes, Given, Answer, Sight, Outcome, outcome, Permits, FixedAt, Fixed}
 
 -- a fact that can hold is true
-sat-fact : {M : Type 1} (𝓤 : URA M) (φ : Type 0) → sProp·Sat (𝓤 .op) (fact 𝓤 φ) → ∥ φ ∥₁
+pub sat-fact : {M : Type 1} (𝓤 : URA M) (φ : Type 0) → sProp·Sat (𝓤 .op) (fact 𝓤 φ) → ∥ φ ∥₁
 unfolding sProp·Sat
 sat-fact 𝓤 φ s = ∥∥₁-elim s ∥∥₁-prop (λ t. ∥∥₁-map (t .1) (λ u. u .0))
 
@@ -33,6 +35,19 @@ given-set [] = prop→set Unit-prop
 given-set (R ∷ Rs) = Σ-set (coded-set (R .coded)) (λ x. given-set Rs)
 
 module _ (T : Ended) where
+  -- of one call: where a contract asks nothing, and whatever it permits is the outcome o, the outcome is fixed
+  pub permits-one : (s : Sight T) {M : Type 1} (𝓤 : URA M) (κs : Lifetimes T) (a : Given T κs) (c : ClausesAt 𝓤 T κs) (o : Outcome T s κs a)
+      → (Answer T κs → IsSet (Outcome T s κs a))
+      → ((g : c .ghost) → c .requires g ≡ emp 𝓤)
+      → ((r : Answer T κs) (ws : Lasts T κs a) → Permits T 𝓤 κs a c r ws → ∥ outcome T s κs a r ws ≡ o ∥₁)
+      → FixedAt T s 𝓤 κs a c
+  permits-one s 𝓤 κs a c o set taken only = record {
+    taken = taken;
+    same = λ r r′ ws ws′ p p′.
+        ∥∥₁-elim (only r ws p) (set r (outcome T s κs a r ws) (outcome T s κs a r′ ws′)) (λ e.
+        ∥∥₁-elim (only r′ ws′ p′) (set r (outcome T s κs a r ws) (outcome T s κs a r′ ws′)) (λ e′. e ∙ sym e′));
+  }
+
   -- the clauses that ask nothing, and ensure that what is seen at the end is f of what was given
   abbrev pub equation : (Y : (κs : Lifetimes T) → Given T κs → Type 0) → ((κs : Lifetimes T) (a : Given T κs) → Answer T κs → AtExit T κs → Y κs a)
       → ((κs : Lifetimes T) (a : Given T κs) → Y κs a) → Clause T
@@ -54,13 +69,8 @@ module _ (T : Ended) where
   fixes s {Y} {f} set whole again view read reads = record {
     whole = whole;
     proved = λ M 𝓤 H A mem run. refl;
-    fixed = λ M 𝓤 H A mem run κs a. record {
-      taken = λ g. refl;
-      same = λ r r′ ws ws′ p p′.
-          ∥∥₁-elim (holds 𝓤 κs a r ws p) (outcome-set κs a r (outcome T s κs a r ws) (outcome T s κs a r′ ws′)) (λ e.
-          ∥∥₁-elim (holds 𝓤 κs a r′ ws′ p′) (outcome-set κs a r (outcome T s κs a r ws) (outcome T s κs a r′ ws′)) (λ e′.
-          sym (reads κs a r ws) ∙ (ap (read κs a) (e ∙ sym e′) ∙ reads κs a r′ ws′)));
-    };
+    fixed = λ M 𝓤 H A mem run κs a. permits-one s 𝓤 κs a (equation Y view f M 𝓤 H A mem run κs a) (read κs a (f κs a)) (outcome-set κs a) (λ g. refl) (λ r ws p.
+        ∥∥₁-map (holds 𝓤 κs a r ws p) (λ e. sym (reads κs a r ws) ∙ ap (read κs a) e));
   }
     where
       holds : {M : Type 1} (𝓤 : URA M) (κs : Lifetimes T) (a : Given T κs) (r : Answer T κs) (ws : Lasts T κs a)

@@ -1,7 +1,9 @@
 // Every public contract fixes its outcome: the law and the table of its uses stand in proofs/.
-// `exchange` is there for the edits alone: each leaves something open in its contract, and the table refuses it.
+// `exchange` is a sample. `samples` has its code under contracts that leave something open, which are not fixed, and in other words, which is.
 ghost use mathlib.Core.Path.{_≡_};
 ghost use Rattle.outcomes.specs.Sample.{exchanged};
+
+mod samples;
 
 pub fn exchange(held: &mut u8, x: u8) -> u8
     ensures { λ r. ⌜ (r, now (held .exit)) ≡ exchanged (now (held .entry)) x ⌝ }

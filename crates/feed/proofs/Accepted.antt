@@ -3,9 +3,9 @@
 use mathlib.Core.Path.{_≡_, refl}
 use mathlib.Core.Bool.{Bool, true, false, cond}
 use mathlib.Core.List.{List, [], _∷_, _++_}
-use Prim.Native.Nat.{ℕ, zero, suc, _*_}
+use Prim.Native.Nat.{ℕ, zero, suc}
 use borrow.Author.Tests.{leb-true, eqb-true}
-use lib.Dec.{eqb, leb}
+use lib.Dec.{leb}
 use lib.Ieee.{binary32, ofBits}
 use lib.Ieee.Scale.{finite}
 use lib.ListN.{length, take, drop}
@@ -65,7 +65,7 @@ module _ (stop : Stop) (s : Settings) (good : settingsNumber s ≡ 0) where
   unfolding samplesLines
   all-samples indices input t =
       all-number 4 input _
-      (λ count rest. all-need (eqb count (2310 * length indices)) 10 _ (λ e. (tt, all-windows 0 indices rest t)))
+      (λ count rest. all-need _ _ _ (λ e. (tt, all-windows 0 indices rest t)))
 
   all-indices : (n : ℕ) (indices input : List ℕ) → Taken indices → All (indicesLines stop s n indices input)
   unfolding indicesLines
@@ -73,7 +73,7 @@ module _ (stop : Stop) (s : Settings) (good : settingsNumber s ≡ 0) where
   all-indices (suc n) indices input t =
       all-number 8 input _
       (λ index rest.
-      all-need (eqb (indexNumber index) 0) 6 _
+      all-need _ _ _
       (λ e. all-indices n (indices ++ (index ∷ [])) rest (taken-more indices index t (eqb-true (indexNumber index) 0 e))))
 
 -- the checks of a listing are those of the settings
@@ -84,12 +84,12 @@ settings-good s a b c = simp (a, b, c)
 pub accepted : (stop : Stop) (input : List ℕ) → Every Accepted (linesOf stop input)
 unfolding linesOf
 accepted stop input =
-    all-number 4 input _ (λ count rest. all-need (eqb count 4) 10 _ (λ four.
-    all-number 4 rest _ (λ level rest. all-need (leb level 2) 4 _ (λ a.
-    all-number 4 rest _ (λ first rest. all-need (finite (ofBits binary32 first)) 5 _ (λ b.
-    all-number 4 rest _ (λ second rest. all-need (finite (ofBits binary32 second)) 5 _ (λ c.
+    all-number 4 input _ (λ count rest. all-need _ _ _ (λ four.
+    all-number 4 rest _ (λ level rest. all-need _ _ _ (λ a.
+    all-number 4 rest _ (λ first rest. all-need _ _ _ (λ b.
+    all-number 4 rest _ (λ second rest. all-need _ _ _ (λ c.
     all-number 4 rest _ (λ distance rest.
-    all-number 4 rest _ (λ windows rest. all-need (leb windows 64) 10 _ (λ few.
+    all-number 4 rest _ (λ windows rest. all-need _ _ _ (λ few.
     all-indices stop _
     (settings-good
     (record { level = level; threshold = ofBits binary32 first; second = ofBits binary32 second; distance = distance }) a b c)

@@ -23,7 +23,7 @@ use Rattle.feed.specs.declared.Said.the-variants.{Nothing}
 use Rattle.feed.specs.Parts.{Stop, end, failure, Line, head, window, refusal}
 use Rattle.feed.specs.Lines.{linesOf}
 use Rattle.feed.specs.Listing.{texts, listingOf}
-use Rattle.feed.specs.Machine.{startOf, wantedOf, says, refuses, fedOf, failedOf}
+use Rattle.feed.specs.Machine.{startOf, wantedOf, says, refusesWith, fedOf, failedOf}
 use Rattle.feed.specs.Run.{saidOf}
 
 -- how many parts are still to come, at most: there are up to 64 indices and up to 64 windows
@@ -68,12 +68,12 @@ pub record Feeds : Type 0 where
   -- Of an input that cannot be read any further the same is said as of one that ends there, with refusal 10 behind it where that end
   -- would have been good.
   pub broken : (input : List ℕ) → OrRefused (linesOf failure input) (linesOf end input)
-  -- What is said of a window no decode refuses.
+  -- What is said of a window no decode refusesWith.
   pub accepted : (stop : Stop) (input : List ℕ) → Every Accepted (linesOf stop input)
   -- Whatever the state and the part, fewer are left after a step: a program that goes on while something is wanted ends.
   pub nearer : (s : State) (part : List ℕ) → wantedOf s ≢ 0 → leftOf (fedOf s part .state) < leftOf s
   pub nearer-failed : (s : State) → wantedOf s ≢ 0 → leftOf (failedOf s .state) < leftOf s
   -- A part that could not be read adds refusal 10 to what was said, and then all is over.
-  pub fails : (s : State) → wantedOf s ≢ 0 → failedOf s ≡ refuses 10
+  pub fails : (s : State) → wantedOf s ≢ 0 → failedOf s ≡ refusesWith 10
   -- Once all is over nothing more is said.
   pub over : (s : State) (part : List ℕ) → wantedOf s ≡ 0 → (fedOf s part ≡ says Nothing s) × (failedOf s ≡ says Nothing s)

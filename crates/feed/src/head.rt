@@ -16,7 +16,7 @@ use search::Settings;
 use words::float::float_of;
 ghost use mathlib.Core.Path.{_≡_};
 ghost use Prim.Native.Nat.{_<_};
-ghost use Rattle.feed.specs.Machine.{numberFed, indexFed, kept as keptOf};
+ghost use Rattle.feed.specs.Machine.{numberFed, indexFed, keptOf};
 
 fn fed_settings_count(s: State, t: Settings, n: u32) -> Fed
     ensures { λ r. ⌜ r ≡ numberFed Field.SettingsCount s t n ⌝ }

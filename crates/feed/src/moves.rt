@@ -6,7 +6,7 @@ use crate::Stage;
 use crate::State;
 use search::Settings;
 ghost use mathlib.Core.Path.{_≡_};
-ghost use Rattle.feed.specs.Machine.{blank as blankOf, says, refuses as refusesWith, told as toldOf, counted as countedOf, indexStage, samplesStage};
+ghost use Rattle.feed.specs.Machine.{blankOf, says, refusesWith, toldOf, countedOf, indexStage, samplesStage};
 
 pub fn blank(stage: Stage) -> State
     ensures { λ r. ⌜ r ≡ blankOf stage ⌝ }

@@ -108,6 +108,7 @@ fn fed_sample_count(s: State, t: Settings, n: u32) -> Fed
     }
 }
 
+// A number of 32 bits. `t` has the settings so far.
 pub fn fed_number(f: Field, s: State, n: u32) -> Fed
     ensures { λ r. ⌜ r ≡ numberFed f s (s .settings) n ⌝ }
 {
@@ -123,6 +124,7 @@ pub fn fed_number(f: Field, s: State, n: u32) -> Fed
     }
 }
 
+// One index more.
 fn kept(stage: Stage, index: u64, s: State) -> State
     requires { ⌜ s .done < 64 ⌝ }
     ensures { λ r. ⌜ r ≡ keptOf stage index s ⌝ }

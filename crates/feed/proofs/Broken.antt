@@ -4,13 +4,10 @@ use mathlib.Core.Path.{refl, ap}
 use mathlib.Core.Bool.{Bool, true, false, cond}
 use mathlib.Core.List.{List, [], _∷_, _++_}
 use mathlib.Core.Logic.{inl, inr}
-use Prim.Native.Nat.{ℕ, zero, suc, _*_}
-use lib.Dec.{eqb, leb}
-use lib.Ieee.{binary32, ofBits}
-use lib.Ieee.Scale.{finite}
+use Prim.Native.Nat.{ℕ, zero, suc}
+use lib.Dec.{leb}
 use lib.ListN.{length, take, drop}
 use Rattle.search.specs.declared.Settings.{Settings}
-use Rattle.search.specs.Answers.{indexNumber}
 use Rattle.words.specs.Words.{littleEndian}
 use Rattle.feed.specs.Parts.{end, failure, Line, head, window, refusal, nextBytes, nextNumber, need}
 use Rattle.feed.specs.Lines.{ending, windowLines, samplesLines, indicesLines, linesOf}
@@ -20,15 +17,16 @@ alike : (n : ℕ) (input : List ℕ) (h k : List ℕ → List ℕ → List Line)
     → OrRefused (nextBytes n input h) (nextBytes n input k)
 unfolding nextBytes
 alike n input h k p = go (leb n (length input)) where
-  go : (b : Bool)
-      → OrRefused (cond b (h (take n input) (drop n input)) (refusal 10 ∷ [])) (cond b (k (take n input) (drop n input)) (refusal 10 ∷ []))
+  go : (b : Bool) → OrRefused
+      (cond b (h (take n input) (drop n input)) (refusal 10 ∷ []))
+      (cond b (k (take n input) (drop n input)) (refusal 10 ∷ []))
   go true = p (take n input) (drop n input)
   go false = inl refl
 
 alike-number : (n : ℕ) (input : List ℕ) (h k : ℕ → List ℕ → List Line) → ((x : ℕ) (rest : List ℕ) → OrRefused (h x rest) (k x rest))
     → OrRefused (nextNumber n input h) (nextNumber n input k)
 unfolding nextNumber
-alike-number n input h k p = alike n input (λ part rest. h (littleEndian part) rest) (λ part rest. k (littleEndian part) rest) (λ part rest. p (littleEndian part) rest)
+alike-number n input h k p = alike n input _ _ (λ part rest. p (littleEndian part) rest)
 
 alike-need : (t : Bool) (number : ℕ) {a b : List Line} → OrRefused a b → OrRefused (need t number a) (need t number b)
 unfolding need
@@ -59,7 +57,7 @@ unfolding samplesLines
 alike-samples s indices input =
     alike-number 4 input _ _
     (λ count rest.
-    alike-need (eqb count (2310 * length indices)) 10 (alike-line (head (length indices)) (alike-windows s 0 indices rest)))
+    alike-need _ _ (alike-line (head (length indices)) (alike-windows s 0 indices rest)))
 
 alike-indices : (s : Settings) (n : ℕ) (indices input : List ℕ)
     → OrRefused (indicesLines failure s n indices input) (indicesLines end s n indices input)
@@ -67,14 +65,14 @@ unfolding indicesLines
 alike-indices s zero indices input = alike-samples s indices input
 alike-indices s (suc n) indices input =
     alike-number 8 input _ _
-    (λ index rest. alike-need (eqb (indexNumber index) 0) 6 (alike-indices s n (indices ++ (index ∷ [])) rest))
+    (λ index rest. alike-need _ _ (alike-indices s n (indices ++ (index ∷ [])) rest))
 
 pub broken : (input : List ℕ) → OrRefused (linesOf failure input) (linesOf end input)
 unfolding linesOf
 broken input =
-    alike-number 4 input _ _ (λ count rest. alike-need (eqb count 4) 10
-    (alike-number 4 rest _ _ (λ level rest. alike-need (leb level 2) 4
-    (alike-number 4 rest _ _ (λ bits rest. alike-need (finite (ofBits binary32 bits)) 5
-    (alike-number 4 rest _ _ (λ bits rest. alike-need (finite (ofBits binary32 bits)) 5
+    alike-number 4 input _ _ (λ count rest. alike-need _ _
+    (alike-number 4 rest _ _ (λ level rest. alike-need _ _
+    (alike-number 4 rest _ _ (λ bits rest. alike-need _ _
+    (alike-number 4 rest _ _ (λ bits rest. alike-need _ _
     (alike-number 4 rest _ _ (λ distance rest.
-    alike-number 4 rest _ _ (λ windows rest. alike-need (leb windows 64) 10 (alike-indices _ windows [] rest)))))))))))
+    alike-number 4 rest _ _ (λ windows rest. alike-need _ _ (alike-indices _ windows [] rest)))))))))))

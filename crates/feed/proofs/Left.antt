@@ -32,7 +32,7 @@ use Rattle.feed.specs.Machine.{
   wantedAt,
   wantedOf,
   says,
-  refuses,
+  refusesWith,
   provided,
   indexStage,
   samplesStage,
@@ -101,7 +101,7 @@ pub nearer : (s : State) (part : List ℕ) → wantedOf s ≢ 0 → leftOf (fedO
 unfolding fedOf wantedOf leftOf
 nearer s part some = left-at (s .stage) s part some
 
-pub failed-is : (s : State) → wantedOf s ≢ 0 → failedOf s ≡ refuses 10
+pub failed-is : (s : State) → wantedOf s ≢ 0 → failedOf s ≡ refusesWith 10
 unfolding failedOf
 failed-is s some = simp (ne-eqb (wantedOf s) 0 some)
 

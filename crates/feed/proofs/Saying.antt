@@ -22,7 +22,7 @@ use Rattle.feed.specs.declared.Said.{Said}
 use Rattle.feed.specs.declared.Said.the-variants.{Refused}
 use Rattle.feed.specs.declared.Fed.{Fed}
 use Rattle.feed.specs.Parts.{Stop, end, failure, Line, refusal, nextBytes, nextNumber, need}
-use Rattle.feed.specs.Machine.{wantedOf, blank, says, refuses, provided, sized, numberFed, fedOf, failedOf}
+use Rattle.feed.specs.Machine.{wantedOf, blankOf, says, refusesWith, provided, sized, numberFed, fedOf, failedOf}
 use Rattle.feed.specs.Run.{lineOf, shortFed, readFed, saidOf}
 
 pub record Tells (n : ℕ) (s : State) (f : Stop → List ℕ → List Line) : Type 0 where
@@ -42,16 +42,16 @@ unfolding saidOf
 said-over zero stop s input e = refl
 said-over (suc steps) stop s input e = simp (eq-eqb _ _ e)
 
-pub tells-over : (n : ℕ) → Tells n (blank Over) (λ stop input. [])
+pub tells-over : (n : ℕ) → Tells n (blankOf Over) (λ stop input. [])
 unfolding wantedOf
-tells-over n = record { so = λ steps stop input l. said-over steps stop (blank Over) input refl }
+tells-over n = record { so = λ steps stop input l. said-over steps stop (blankOf Over) input refl }
 
 pub after-says : {n : ℕ} (said : Said) (part : List ℕ) {s : State} {f : Stop → List ℕ → List Line} → Tells n s f
     → After n part (says said s) (λ stop rest. lineOf said part ++ f stop rest)
 after-says said part p =
     record { so = λ steps stop input l. ap (λ (x : List Line). lineOf said part ++ x) (p .so steps stop input l) }
 
-pub after-refuses : (n number : ℕ) (part : List ℕ) → After n part (refuses number) (λ stop rest. refusal number ∷ [])
+pub after-refuses : (n number : ℕ) (part : List ℕ) → After n part (refusesWith number) (λ stop rest. refusal number ∷ [])
 after-refuses n number part = after-says (Refused number) part (tells-over n)
 
 -- a check, over what comes after it where it holds
@@ -79,7 +79,7 @@ module _
         let e : length (take w input) ≡ w = length-take-le w input enough in
         rw (fed (take w input), eq-eqb _ _ e) (after (take w input) e .so steps stop (drop w input) l)
 
-    short : (stop : Stop) (input : List ℕ) → length input < w → shortFed stop s input ≡ refuses 10
+    short : (stop : Stop) (input : List ℕ) → length input < w → shortFed stop s input ≡ refusesWith 10
     unfolding sized provided failedOf
     short end input less = rw (fed input, ne-eqb (length input) w (λ e. omega arith))
     short failure input less = rw (wants, wanted-some)

@@ -8,7 +8,7 @@ use Rattle.feed.specs.Machine.{startOf}
 use Rattle.feed.specs.Statement.{Feeds}
 use Rattle.feed.proofs.Numbers.{tells-all}
 use Rattle.feed.proofs.Broken.{broken}
-use Rattle.feed.proofs.Accepted.{accepted}
+use Rattle.feed.proofs.Answered.{answered}
 use Rattle.feed.proofs.Left.{nearer, nearer-failed, failed-is, over}
 
 pub feeds : Feeds
@@ -18,7 +18,7 @@ feeds =
       lines = tells-all (replicate 64 0) refl _ .so;
       prints = λ steps input l. ap texts (tells-all (replicate 64 0) refl _ .so steps end input l);
       broken = broken;
-      accepted = accepted;
+      answered = answered;
       nearer = nearer;
       nearer-failed = nearer-failed;
       fails = failed-is;

@@ -27,7 +27,7 @@ use Rattle.feed.specs.declared.State.{State}
 use Rattle.feed.specs.declared.Said.the-variants.{Nothing}
 use Rattle.feed.specs.declared.Fed.{Fed}
 use Rattle.feed.specs.Inner.{Whole}
-use Rattle.feed.specs.Machine.{wantedOf, says, refuses, provided, numberFed, indexFed, samplesFed, sized, fedAt, fedOf, failedOf}
+use Rattle.feed.specs.Machine.{wantedOf, says, refusesWith, provided, numberFed, indexFed, samplesFed, sized, fedAt, fedOf, failedOf}
 
 -- a check: what is refused tells no window
 whole-provided : (t : Bool) (number : ℕ) (fed : Fed) (part : List ℕ) → (t ≡ true → Whole (fed .said) part)
@@ -65,6 +65,6 @@ whole s part = whole-at (s .stage) s part
 pub whole-failed : (s : State) (part : List ℕ) → Whole (failedOf s .said) part
 unfolding failedOf
 whole-failed s part = go (eqb (wantedOf s) 0) where
-  go : (b : Bool) → Whole (cond b (says Nothing s) (refuses 10) .said) part
+  go : (b : Bool) → Whole (cond b (says Nothing s) (refusesWith 10) .said) part
   go true = tt
   go false = tt

@@ -40,8 +40,8 @@ unfoldable pub wantedOf : State → ℕ
 wantedOf s = wantedAt (s .stage)
 
 -- nothing is known yet: zeros
-abbrev pub blank : Stage → State
-blank stage =
+abbrev pub blankOf : Stage → State
+blankOf stage =
     record {
       stage = stage;
       settings = record { level = 0; threshold = ofBits binary32 0; second = ofBits binary32 0; distance = 0 };
@@ -51,7 +51,7 @@ blank stage =
     }
 
 unfoldable pub startOf : State
-startOf = blank (Number SettingsCount)
+startOf = blankOf (Number SettingsCount)
 
 -- ---- what becomes of a state, and what is said
 
@@ -59,20 +59,20 @@ abbrev pub says : Said → State → Fed
 says said s = record { state = s; said = said }
 
 -- a refusal, and all is over
-abbrev pub refuses : ℕ → Fed
-refuses number = says (Refused number) (blank Over)
+abbrev pub refusesWith : ℕ → Fed
+refusesWith number = says (Refused number) (blankOf Over)
 
 unfoldable pub provided : Bool → ℕ → Fed → Fed
-provided test refusal fed = cond test fed (refuses refusal)
+provided test refusal fed = cond test fed (refusesWith refusal)
 
 -- the same at another stage, with other settings
-abbrev pub told : Stage → Settings → State → State
-told stage settings s =
+abbrev pub toldOf : Stage → Settings → State → State
+toldOf stage settings s =
     record { stage = stage; settings = settings; windows = s .windows; done = s .done; indices = s .indices }
 
 -- the same at another stage, with other counts
-abbrev pub counted : Stage → ℕ → ℕ → State → State
-counted stage windows done s =
+abbrev pub countedOf : Stage → ℕ → ℕ → State → State
+countedOf stage windows done s =
     record { stage = stage; settings = s .settings; windows = windows; done = done; indices = s .indices }
 
 -- where k of the indices came, and where k of the windows came
@@ -85,35 +85,35 @@ samplesStage k windows = cond (ltb k windows) Samples End
 -- ---- what is done with a number of 32 bits; t: the settings so far
 
 abbrev pub numberFed : Field → State → Settings → ℕ → Fed
-numberFed SettingsCount s t n = provided (eqb n 4) 10 (says Nothing (told (Number Level) t s))
+numberFed SettingsCount s t n = provided (eqb n 4) 10 (says Nothing (toldOf (Number Level) t s))
 numberFed Level s t n =
     provided (leb n 2) 4
     (says Nothing
-    (told (Number Threshold) (record { level = n; threshold = t .threshold; second = t .second; distance = t .distance }) s))
+    (toldOf (Number Threshold) (record { level = n; threshold = t .threshold; second = t .second; distance = t .distance }) s))
 numberFed Threshold s t n =
     let x = ofBits binary32 n in
     provided (finite x) 5
     (says Nothing
-    (told (Number Second) (record { level = t .level; threshold = x; second = t .second; distance = t .distance }) s))
+    (toldOf (Number Second) (record { level = t .level; threshold = x; second = t .second; distance = t .distance }) s))
 numberFed Second s t n =
     let x = ofBits binary32 n in
     provided (finite x) 5
     (says Nothing
-    (told (Number Distance) (record { level = t .level; threshold = t .threshold; second = x; distance = t .distance }) s))
+    (toldOf (Number Distance) (record { level = t .level; threshold = t .threshold; second = x; distance = t .distance }) s))
 numberFed Distance s t n =
     says Nothing
-    (told (Number WindowCount) (record { level = t .level; threshold = t .threshold; second = t .second; distance = n }) s)
+    (toldOf (Number WindowCount) (record { level = t .level; threshold = t .threshold; second = t .second; distance = n }) s)
 numberFed WindowCount s t n =
-    provided (leb n 64) 10 (says Nothing (counted (indexStage 0 n) n 0 s))
+    provided (leb n 64) 10 (says Nothing (countedOf (indexStage 0 n) n 0 s))
 numberFed SampleCount s t n =
     provided (eqb n (2310 * s .windows)) 10
-    (says (Head (s .windows)) (counted (samplesStage 0 (s .windows)) (s .windows) 0 s))
+    (says (Head (s .windows)) (countedOf (samplesStage 0 (s .windows)) (s .windows) 0 s))
 
 -- ---- an index, a window
 
 -- an index is kept where there is room for it
-abbrev pub kept : Stage → ℕ → State → State
-kept stage index s =
+abbrev pub keptOf : Stage → ℕ → State → State
+keptOf stage index s =
     record {
       stage = stage;
       settings = s .settings;
@@ -126,7 +126,7 @@ unfoldable pub indexFed : State → ℕ → Fed
 indexFed s index =
     provided (ltb (s .done) 64) 10
     (provided (eqb (indexNumber index) 0) 6
-    (says Nothing (kept (indexStage (s .done + 1) (s .windows)) index s)))
+    (says Nothing (keptOf (indexStage (s .done + 1) (s .windows)) index s)))
 
 -- the window whose samples came
 abbrev pub shotOf : State → Shot
@@ -135,7 +135,7 @@ shotOf s = record { window = s .done; settings = s .settings; index = getD (s .i
 unfoldable pub samplesFed : State → Fed
 samplesFed s =
     provided (ltb (s .done) 64) 10
-    (says (Window (shotOf s)) (counted (samplesStage (s .done + 1) (s .windows)) (s .windows) (s .done + 1) s))
+    (says (Window (shotOf s)) (countedOf (samplesStage (s .done + 1) (s .windows)) (s .windows) (s .done + 1) s))
 
 -- ---- the whole
 
@@ -147,7 +147,7 @@ abbrev pub fedAt : Stage → State → List ℕ → Fed
 fedAt (Number f) s part = sized 4 part (numberFed f s (s .settings) (littleEndian part))
 fedAt Index s part = sized 8 part (indexFed s (littleEndian part))
 fedAt Samples s part = sized 9240 part (samplesFed s)
-fedAt End s part = sized 0 part (says Nothing (blank Over))
+fedAt End s part = sized 0 part (says Nothing (blankOf Over))
 fedAt Over s part = says Nothing s
 
 -- the part that was wanted; a shorter one says that the input ended there
@@ -156,4 +156,4 @@ fedOf s part = fedAt (s .stage) s part
 
 -- a part that could not be read
 unfoldable pub failedOf : State → Fed
-failedOf s = cond (eqb (wantedOf s) 0) (says Nothing s) (refuses 10)
+failedOf s = cond (eqb (wantedOf s) 0) (says Nothing s) (refusesWith 10)

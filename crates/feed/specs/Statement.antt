@@ -5,7 +5,9 @@ use mathlib.Core.List.{List, [], _∷_, _++_}
 use mathlib.Core.Logic.{_≢_, _⊎_}
 use Prim.Native.Nat.{ℕ, _+_, _-_, _≤_, _<_}
 use lib.ListN.{length}
-use Rattle.search.specs.Answers.{settingsNumber, indexNumber}
+use Rattle.lists.specs.From.{tabulate}
+use Rattle.search.specs.Answers.{decodeOf}
+use Rattle.words.specs.Words.{floatAt}
 use Rattle.feed.specs.declared.Field.{Field}
 use Rattle.feed.specs.declared.Field.the-variants.{
   SettingsCount,
@@ -23,7 +25,7 @@ use Rattle.feed.specs.declared.Said.the-variants.{Nothing}
 use Rattle.feed.specs.Parts.{Stop, end, failure, Line, head, window, refusal}
 use Rattle.feed.specs.Lines.{linesOf}
 use Rattle.feed.specs.Listing.{texts, listingOf}
-use Rattle.feed.specs.Machine.{startOf, wantedOf, says, refuses, fedOf, failedOf}
+use Rattle.feed.specs.Machine.{startOf, wantedOf, says, refusesWith, fedOf, failedOf}
 use Rattle.feed.specs.Run.{saidOf}
 
 -- how many parts are still to come, at most: there are up to 64 indices and up to 64 windows
@@ -50,11 +52,11 @@ leftOf s = leftAt (s .stage) (s .done)
 abbrev pub OrRefused : List Line → List Line → Type 0
 OrRefused a b = (a ≡ b) ⊎ (a ≡ b ++ (refusal 10 ∷ []))
 
--- a window's settings and its index are such that no decode refuses them, and its samples are as many bytes as a window has
-abbrev pub Accepted : Line → Type 0
-Accepted (head n) = Unit {0}
-Accepted (window k s index part) = (settingsNumber s ≡ 0) × (indexNumber index ≡ 0) × (length part ≡ 9240)
-Accepted (refusal n) = Unit {0}
+-- the samples of a window are 9,240 bytes, and its decode finds a message or none: it refuses nothing
+abbrev pub Answered : Line → Type 0
+Answered (head n) = Unit {0}
+Answered (window k s index part) = (length part ≡ 9240) × (decodeOf (tabulate 2310 (floatAt part)) s index .number ≤ 1)
+Answered (refusal n) = Unit {0}
 
 abbrev pub Every : (Line → Type 0) → List Line → Type 0
 Every P [] = Unit {0}
@@ -68,12 +70,12 @@ pub record Feeds : Type 0 where
   -- Of an input that cannot be read any further the same is said as of one that ends there, with refusal 10 behind it where that end
   -- would have been good.
   pub broken : (input : List ℕ) → OrRefused (linesOf failure input) (linesOf end input)
-  -- What is said of a window no decode refuses.
-  pub accepted : (stop : Stop) (input : List ℕ) → Every Accepted (linesOf stop input)
+  -- Of a window is said what a decode answers.
+  pub answered : (stop : Stop) (input : List ℕ) → Every Answered (linesOf stop input)
   -- Whatever the state and the part, fewer are left after a step: a program that goes on while something is wanted ends.
   pub nearer : (s : State) (part : List ℕ) → wantedOf s ≢ 0 → leftOf (fedOf s part .state) < leftOf s
   pub nearer-failed : (s : State) → wantedOf s ≢ 0 → leftOf (failedOf s .state) < leftOf s
   -- A part that could not be read adds refusal 10 to what was said, and then all is over.
-  pub fails : (s : State) → wantedOf s ≢ 0 → failedOf s ≡ refuses 10
+  pub fails : (s : State) → wantedOf s ≢ 0 → failedOf s ≡ refusesWith 10
   -- Once all is over nothing more is said.
   pub over : (s : State) (part : List ℕ) → wantedOf s ≡ 0 → (fedOf s part ≡ says Nothing s) × (failedOf s ≡ says Nothing s)

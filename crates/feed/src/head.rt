@@ -16,7 +16,7 @@ use search::Settings;
 use words::float::float_of;
 ghost use mathlib.Core.Path.{_≡_};
 ghost use Prim.Native.Nat.{_<_};
-ghost use Rattle.feed.specs.Machine.{numberFed, indexFed, kept as keptOf};
+ghost use Rattle.feed.specs.Machine.{numberFed, indexFed, keptOf};
 
 fn fed_settings_count(s: State, t: Settings, n: u32) -> Fed
     ensures { λ r. ⌜ r ≡ numberFed Field.SettingsCount s t n ⌝ }
@@ -108,6 +108,7 @@ fn fed_sample_count(s: State, t: Settings, n: u32) -> Fed
     }
 }
 
+// A number of 32 bits. `t` has the settings so far.
 pub fn fed_number(f: Field, s: State, n: u32) -> Fed
     ensures { λ r. ⌜ r ≡ numberFed f s (s .settings) n ⌝ }
 {
@@ -123,6 +124,7 @@ pub fn fed_number(f: Field, s: State, n: u32) -> Fed
     }
 }
 
+// One index more.
 fn kept(stage: Stage, index: u64, s: State) -> State
     requires { ⌜ s .done < 64 ⌝ }
     ensures { λ r. ⌜ r ≡ keptOf stage index s ⌝ }

@@ -1,4 +1,4 @@
-// What becomes of a state.
+// What becomes of a state, and the stage that comes next.
 use crate::Fed;
 use crate::Field;
 use crate::Said;
@@ -6,8 +6,9 @@ use crate::Stage;
 use crate::State;
 use search::Settings;
 ghost use mathlib.Core.Path.{_≡_};
-ghost use Rattle.feed.specs.Machine.{blank as blankOf, says, refuses as refusesWith, told as toldOf, counted as countedOf, indexStage, samplesStage};
+ghost use Rattle.feed.specs.Machine.{blankOf, says, refusesWith, toldOf, countedOf, indexStage, samplesStage};
 
+// Nothing is known: zeros.
 pub fn blank(stage: Stage) -> State
     ensures { λ r. ⌜ r ≡ blankOf stage ⌝ }
 {
@@ -45,6 +46,7 @@ pub fn refuses(number: u32) -> Fed
     }
 }
 
+// The same at another stage, with other settings.
 pub fn told(stage: Stage, settings: Settings, s: State) -> State
     ensures { λ r. ⌜ r ≡ toldOf stage settings s ⌝ }
 {
@@ -58,6 +60,7 @@ pub fn told(stage: Stage, settings: Settings, s: State) -> State
     }
 }
 
+// The same at another stage, with other counts.
 pub fn counted(stage: Stage, windows: u32, done: u32, s: State) -> State
     ensures { λ r. ⌜ r ≡ countedOf stage windows done s ⌝ }
 {

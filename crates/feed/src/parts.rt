@@ -15,7 +15,7 @@ use words::numbers::word;
 ghost use mathlib.Core.Path.{_≡_};
 ghost use lib.ListN.{length};
 ghost use Rattle.words.specs.Words.{littleEndian};
-ghost use Rattle.feed.specs.Machine.{startOf, wantedOf, fedOf, failedOf, numberFed, indexFed, samplesFed, sized, says, blank as blankOf};
+ghost use Rattle.feed.specs.Machine.{startOf, wantedOf, fedOf, failedOf, numberFed, indexFed, samplesFed, sized, says, blankOf};
 
 // Before the first part.
 pub fn start() -> State

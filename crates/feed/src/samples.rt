@@ -10,6 +10,7 @@ ghost use mathlib.Core.Path.{_≡_};
 ghost use Prim.Native.Nat.{_<_};
 ghost use Rattle.feed.specs.Machine.{shotOf, samplesFed};
 
+// The window whose samples came.
 fn shot(s: State) -> Shot
     requires { ⌜ s .done < 64 ⌝ }
     ensures { λ r. ⌜ r ≡ shotOf s ⌝ }

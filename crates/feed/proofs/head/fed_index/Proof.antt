@@ -22,7 +22,9 @@ refuses-requires-2 c κs = search needs
 
 returns-2 : tie.Need-returns-2
 unfolding provided indexFed
-returns-2 c = simp (lt-ltb _ _ (c .before .before .before .if1 .left), sym (c .before .before .check-index .ensures), ne-eqb _ _ (c .before .if2 .taken)) (c .refuses2 .ensures)
+returns-2 c =
+    let i = c .before .before .check-index in
+    simp (lt-ltb _ _ (c .before .before .before .if1 .left), sym (i .ensures), ne-eqb _ _ (c .before .if2 .taken)) (c .refuses2 .ensures)
 
 add-index-stage : tie.Need-add-index-stage
 add-index-stage c = search needs
@@ -39,7 +41,8 @@ silent-requires c κs = search needs
 returns-3 : tie.Need-returns-3
 unfolding provided indexFed
 returns-3 c =
-    simp (lt-ltb _ _ (c .before .before .before .before .before .if1 .left), sym (c .before .before .before .before .check-index .ensures), eq-eqb _ _ (c .before .before .before .if2 .left))
+    let i = c .before .before .before .before .check-index in
+    simp (lt-ltb _ _ (c .before .before .before .before .before .if1 .left), sym (i .ensures), eq-eqb _ _ (c .before .before .before .if2 .left))
     (c .silent .ensures ∙ rw (c .before .kept .ensures, c .before .before .index-stage .ensures))
 
 pub fed-index-spec : {M : Type 1} → statement M

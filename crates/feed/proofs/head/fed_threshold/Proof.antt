@@ -1,8 +1,7 @@
 -- `feed::head::fed_threshold` meets its contract.
 -- Assumes nothing.
-use mathlib.Core.Path.{sym, ap, _∙_}
+use mathlib.Core.Path.{sym, _∙_}
 use borrow.Author.Tests.{not-true, not-false}
-use lib.Ieee.Scale.{finite}
 use Rattle.feed.specs.Machine.{provided}
 use borrow.Author.Needs.{needs}
 use Rattle.feed.proofs.head.fed_threshold.Statement.{statement}
@@ -19,7 +18,10 @@ refuses-requires c κs = search needs
 
 returns : tie.Need-returns
 unfolding provided
-returns c = simp (sym (ap finite (c .before .before .before .float-of .ensures)) ∙ (sym (c .before .before .is-finite .ensures) ∙ not-true (c .before .before .is-finite .result) (c .before .if1 .taken))) (c .refuses .ensures)
+returns c =
+    let x = c .before .before .before .float-of in
+    let f = c .before .before .is-finite in
+    simp (sym (x .ensures), sym (f .ensures), not-true (f .result) (c .before .if1 .taken)) (c .refuses .ensures)
 
 told-requires : tie.Need-told-requires
 told-requires c κs = search needs
@@ -29,7 +31,11 @@ silent-requires c κs = search needs
 
 returns-2 : tie.Need-returns-2
 unfolding provided
-returns-2 c = simp (sym (c .before .before .before .before .float-of .ensures), sym (c .before .before .before .is-finite .ensures), not-false (c .before .before .before .is-finite .result) (c .before .before .if1 .left)) (c .silent .ensures ∙ rw (c .before .told .ensures))
+returns-2 c =
+    let x = c .before .before .before .before .float-of in
+    let f = c .before .before .before .is-finite in
+    simp (sym (x .ensures), sym (f .ensures), not-false (f .result) (c .before .before .if1 .left))
+    (c .silent .ensures ∙ rw (c .before .told .ensures))
 
 pub fed-threshold-spec : {M : Type 1} → statement M
 fed-threshold-spec =

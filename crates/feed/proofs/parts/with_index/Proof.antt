@@ -22,7 +22,9 @@ fed-index-requires c κs = search needs
 
 returns-2 : tie.Need-returns-2
 unfolding provided sized
-returns-2 c = simp (eq-eqb _ _ (c .before .before .if1 .left)) (c .fed-index .ensures ∙ ap (indexFed (c .before .before .before .before .args .state)) (c .before .long-of .ensures))
+returns-2 c =
+    simp (eq-eqb _ _ (c .before .before .if1 .left))
+    (c .fed-index .ensures ∙ ap (indexFed (c .before .before .before .before .args .state)) (c .before .long-of .ensures))
 
 pub with-index-spec : {M : Type 1} → statement M
 with-index-spec =

@@ -1,24 +1,32 @@
--- What is said of a window no decode refuses.
+-- Of a window is said what a decode answers: what the checks let pass it does not refuse.
 -- Assumes nothing.
 use mathlib.Core.Path.{_≡_, refl}
 use mathlib.Core.Bool.{Bool, true, false, cond}
 use mathlib.Core.List.{List, [], _∷_, _++_}
-use Prim.Native.Nat.{ℕ, zero, suc, _*_}
+use mathlib.Core.Option.{Option, none, some}
+use Prim.Native.Nat.{ℕ, zero, suc, _≤_}
+use native.Mathlib.Omega.{arith}
 use borrow.Author.Tests.{leb-true, eqb-true}
-use lib.Dec.{eqb, leb}
-use lib.Ieee.{binary32, ofBits}
+use lib.Dec.{leb}
+use lib.Ieee.{Float, binary32, ofBits}
 use lib.Ieee.Scale.{finite}
 use lib.ListN.{length, take, drop}
 use lib.Seq.{length-take-le}
+use Rattle.lists.specs.From.{tabulate}
+use Rattle.lists.proofs.Table.{length-tabulate}
 use Rattle.search.specs.declared.Settings.{Settings}
-use Rattle.search.specs.Answers.{settingsNumber, indexNumber}
-use Rattle.words.specs.Words.{littleEndian}
+use Rattle.search.specs.declared.Candidate.{Candidate}
+use Rattle.search.specs.Choice.{best}
+use Rattle.search.specs.Kinds.{long}
+use Rattle.search.specs.Seen.{windowOf}
+use Rattle.search.specs.Answers.{windowNumber, settingsNumber, indexNumber, answered as found, answerOf, decodeOf}
+use Rattle.words.specs.Words.{littleEndian, floatAt}
 use Rattle.feed.specs.Parts.{Stop, end, failure, Line, refusal, nextBytes, nextNumber, need}
 use Rattle.feed.specs.Lines.{ending, windowLines, samplesLines, indicesLines, linesOf}
-use Rattle.feed.specs.Statement.{Accepted, Every}
+use Rattle.feed.specs.Statement.{Answered, Every}
 
 abbrev All : List Line → Type 0
-All lines = Every Accepted lines
+All lines = Every Answered lines
 
 all-bytes : (n : ℕ) (input : List ℕ) (h : List ℕ → List ℕ → List Line)
     → ((part rest : List ℕ) → length part ≡ n → All (h part rest)) → All (nextBytes n input h)
@@ -45,6 +53,18 @@ all-end failure [] = (tt, tt)
 all-end end (b ∷ bs) = (tt, tt)
 all-end failure (b ∷ bs) = (tt, tt)
 
+number-of : (samples : List Float) (index : ℕ) (o : Option Candidate) → found samples index o .number ≤ 1
+unfolding answerOf
+number-of samples index none = omega arith
+number-of samples index (some c) = omega arith
+
+not-refused : (part : List ℕ) (s : Settings) (index : ℕ) → settingsNumber s ≡ 0 → indexNumber index ≡ 0
+    → decodeOf (tabulate 2310 (floatAt part)) s index .number ≤ 1
+unfolding decodeOf windowNumber
+not-refused part s index a b =
+    let samples = tabulate 2310 (floatAt part) in
+    simp (length-tabulate 2310 (floatAt part), a, b) (number-of samples index (best long s (windowOf 14 samples)))
+
 -- every index of a list is taken
 abbrev Taken : List ℕ → Type 0
 Taken [] = Unit {0}
@@ -59,13 +79,13 @@ module _ (stop : Stop) (s : Settings) (good : settingsNumber s ≡ 0) where
   unfolding windowLines
   all-windows k [] input t = all-end stop input
   all-windows k (index ∷ indices) input t =
-      all-bytes 9240 input _ (λ part rest e. ((good, t .0, e), all-windows (suc k) indices rest (t .1)))
+      all-bytes 9240 input _ (λ part rest e. ((e, not-refused part s index good (t .0)), all-windows (suc k) indices rest (t .1)))
 
   all-samples : (indices input : List ℕ) → Taken indices → All (samplesLines stop s indices input)
   unfolding samplesLines
   all-samples indices input t =
       all-number 4 input _
-      (λ count rest. all-need (eqb count (2310 * length indices)) 10 _ (λ e. (tt, all-windows 0 indices rest t)))
+      (λ count rest. all-need _ _ _ (λ e. (tt, all-windows 0 indices rest t)))
 
   all-indices : (n : ℕ) (indices input : List ℕ) → Taken indices → All (indicesLines stop s n indices input)
   unfolding indicesLines
@@ -73,23 +93,24 @@ module _ (stop : Stop) (s : Settings) (good : settingsNumber s ≡ 0) where
   all-indices (suc n) indices input t =
       all-number 8 input _
       (λ index rest.
-      all-need (eqb (indexNumber index) 0) 6 _
+      all-need _ _ _
       (λ e. all-indices n (indices ++ (index ∷ [])) rest (taken-more indices index t (eqb-true (indexNumber index) 0 e))))
 
 -- the checks of a listing are those of the settings
-settings-good : (s : Settings) → leb (s .level) 2 ≡ true → finite (s .threshold) ≡ true → finite (s .second) ≡ true → settingsNumber s ≡ 0
+settings-good : (s : Settings) → leb (s .level) 2 ≡ true → finite (s .threshold) ≡ true → finite (s .second) ≡ true
+    → settingsNumber s ≡ 0
 unfolding settingsNumber
 settings-good s a b c = simp (a, b, c)
 
-pub accepted : (stop : Stop) (input : List ℕ) → Every Accepted (linesOf stop input)
+pub answered : (stop : Stop) (input : List ℕ) → Every Answered (linesOf stop input)
 unfolding linesOf
-accepted stop input =
-    all-number 4 input _ (λ count rest. all-need (eqb count 4) 10 _ (λ four.
-    all-number 4 rest _ (λ level rest. all-need (leb level 2) 4 _ (λ a.
-    all-number 4 rest _ (λ first rest. all-need (finite (ofBits binary32 first)) 5 _ (λ b.
-    all-number 4 rest _ (λ second rest. all-need (finite (ofBits binary32 second)) 5 _ (λ c.
+answered stop input =
+    all-number 4 input _ (λ count rest. all-need _ _ _ (λ four.
+    all-number 4 rest _ (λ level rest. all-need _ _ _ (λ a.
+    all-number 4 rest _ (λ first rest. all-need _ _ _ (λ b.
+    all-number 4 rest _ (λ second rest. all-need _ _ _ (λ c.
     all-number 4 rest _ (λ distance rest.
-    all-number 4 rest _ (λ windows rest. all-need (leb windows 64) 10 _ (λ few.
+    all-number 4 rest _ (λ windows rest. all-need _ _ _ (λ few.
     all-indices stop _
     (settings-good
     (record { level = level; threshold = ofBits binary32 first; second = ofBits binary32 second; distance = distance }) a b c)

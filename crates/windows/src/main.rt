@@ -18,7 +18,7 @@ ghost use Prim.Native.Nat.{_≤_, _<_};
 ghost use lib.ListN.{length};
 ghost use Rattle.feed.specs.Machine.{wantedOf};
 ghost use Rattle.feed.specs.Statement.{leftOf};
-ghost use Rattle.windows.specs.Within.{Within};
+ghost use Rattle.windows.specs.Inner.{Within};
 
 // What a read brought: so many bytes, fewer than were asked for only at the end of the input, or nothing because it failed.
 enum Came {

@@ -1,4 +1,4 @@
--- The bytes that a read brought lie within the memory that it was to fill.
+-- What private functions rest on: the bytes that a read brought lie within the memory that it was to fill.
 -- Assumes nothing.
 use Prim.Native.Nat.{ℕ, _≤_}
 use Rattle.windows.specs.declared.Came.{Came}

@@ -10,7 +10,7 @@ use lib.ListN.{length}
 use lib.Ieee.{Float, binary32, mul, le}
 use Rattle.lists.specs.Told.{Told, done, refused}
 use Rattle.lists.proofs.Telling.{told-refused, told-done}
-use Rattle.floats.specs.Zero.{zeroF}
+use Rattle.floats.specs.Numbers.{zeroF}
 use Rattle.carrier.specs.declared.search.Best.{Best}
 use Rattle.carrier.specs.Refusals.{searchNumber, floorNumber, carrierNumber}
 use Rattle.carrier.specs.Peaks.{peakOf, searchOf}

@@ -16,7 +16,7 @@ use lib.Ieee.Bits.{is-true}
 use lib.Ieee.Exact.{HasValue, round-exact}
 use lib.Ieee.Fits.{down-pos}
 use Rattle.lists.specs.Told.{done}
-use Rattle.floats.specs.Zero.{zeroF}
+use Rattle.floats.specs.Numbers.{zeroF}
 use Rattle.math.specs.Parabola.{parabola}
 use Rattle.floats.proofs.Order.{zero-of}
 use lib.Ieee.Scale.{finite}

@@ -19,7 +19,7 @@ use lib.Ieee.{Float, lt, le, isNan}
 use lib.Ieee.Bits.{is-true, is-false}
 use Rattle.lists.specs.Told.{Told, done, tell}
 use Rattle.lists.proofs.Telling.{told-number, told-values}
-use Rattle.floats.specs.Zero.{zeroF}
+use Rattle.floats.specs.Numbers.{zeroF}
 use Rattle.carrier.specs.declared.search.Best.{Best}
 use Rattle.carrier.specs.Refusals.{searchNumber}
 use Rattle.carrier.specs.Peaks.{binAt, stronger, peakFrom, peakOf, searchOf}

@@ -12,7 +12,7 @@ use lib.IntN.{ℤ}
 use lib.ListN.{length, getD}
 use lib.Ieee.{Float, nan, inf, fin, binary32, mul, lt, eq, le}
 use Rattle.lists.specs.Told.{done}
-use Rattle.floats.specs.Zero.{zeroF}
+use Rattle.floats.specs.Numbers.{zeroF}
 use Rattle.floats.proofs.Nan.{nan-lt, nan-le}
 use Rattle.carrier.specs.Refusals.{carrierNumber}
 use Rattle.carrier.specs.Peaks.{peakOf}

@@ -6,7 +6,7 @@ use Prim.Native.Nat.{ℕ, _+_, _-_}
 use lib.ListN.{length}
 use lib.Ieee.{Float, binary32, mul, le}
 use Rattle.lists.specs.Told.{Told, done, refused, tell}
-use Rattle.floats.specs.Zero.{zeroF}
+use Rattle.floats.specs.Numbers.{zeroF}
 use Rattle.math.specs.Parabola.{parabola}
 use Rattle.carrier.specs.declared.metric.Carrier.{Carrier}
 use Rattle.carrier.specs.declared.metric.Carrier.the-variants.{Peak, Weak, Refused}

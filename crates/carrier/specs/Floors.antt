@@ -7,7 +7,7 @@ use lib.Dec.{ltb}
 use lib.ListN.{length}
 use lib.Ieee.{Float, binary32, add}
 use Rattle.lists.specs.Told.{Told, done, refused, tell}
-use Rattle.floats.specs.Zero.{zeroF}
+use Rattle.floats.specs.Numbers.{zeroF}
 use Rattle.carrier.specs.declared.notch.Floor.{Floor}
 use Rattle.carrier.specs.declared.notch.Floor.the-variants.{Is, Refused}
 use Rattle.carrier.specs.Refusals.{floorNumber}

@@ -6,7 +6,7 @@ use Prim.Native.Nat.{ℕ, zero, suc, _+_, _-_, _*_, _/_}
 use lib.ListN.{getD, length}
 use lib.Ieee.{Float, nan, lt}
 use Rattle.lists.specs.Told.{Told, done, refused, tell}
-use Rattle.floats.specs.Zero.{zeroF}
+use Rattle.floats.specs.Numbers.{zeroF}
 use Rattle.carrier.specs.declared.search.Best.{Best}
 use Rattle.carrier.specs.declared.search.Search.{Search}
 use Rattle.carrier.specs.declared.search.Search.the-variants.{Found, Refused}

@@ -5,7 +5,7 @@ use Prim.Native.Nat.{ℕ, _-_, _/_, _%_}
 use lib.Dec.{eqb, leb, ltb}
 use lib.Ieee.Scale.{finite}
 use lib.Ieee.{Float, lt}
-use Rattle.floats.specs.Zero.{zeroF}
+use Rattle.floats.specs.Numbers.{zeroF}
 
 -- N is even, 4 to 4,096
 unfoldable pub binsTaken : ℕ → Bool

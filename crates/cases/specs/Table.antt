@@ -8,21 +8,21 @@ use lib.IntN.{ℤ, pos, negsuc}
 use lib.Ieee.{Float, fin}
 use lib.ListN.{replicate}
 use Rattle.lists.specs.Told.{Told, done}
-use Rattle.floats.specs.Zero.{zeroF}
+use Rattle.floats.specs.Numbers.{zeroF, two}
 use Rattle.annex10.specs.Remainder.{remainder}
 use Rattle.annex10.specs.Header.{longHeader}
 use Rattle.annex10.specs.Repair.{pattern, clearing}
 use Rattle.annex10.specs.declared.Repairs.the-variants.{One, Two}
 use Rattle.annex10.specs.declared.Found.{Found}
 use Rattle.annex10.specs.declared.Found.the-variants.{At}
-use Rattle.math.specs.Parabola.{two, minusHalf, parabola}
+use Rattle.math.specs.Parabola.{minusHalf, parabola}
 use Rattle.cn0.specs.Logarithm.{logSteps}
 use Rattle.place.specs.declared.Place.{Place}
 use Rattle.place.specs.Step.{earlierOf, laterOf}
 use Rattle.timing.specs.declared.Offset.the-variants.{Same, Earlier}
 use Rattle.timing.specs.declared.Moves.the-variants.{On, Back}
 use Rattle.timing.specs.declared.Timing.{Timing}
-use Rattle.timing.specs.Subsample.{fractionOf, timingOf}
+use Rattle.timing.specs.Subsample.{one, fractionOf, timingOf}
 
 pub data Case : Type 0 where
   number : ℕ → ℕ → Case
@@ -34,18 +34,18 @@ pub data Case : Type 0 where
   time : Timing → Timing → Case
 
 -- both sides are the same
-abbrev pub Holds : Case → Type 0
-Holds (number x y) = x ≡ y
-Holds (truth x y) = x ≡ y
-Holds (positions x y) = x ≡ y
-Holds (whole x y) = x ≡ y
-Holds (real x y) = x ≡ y
-Holds (step x y) = x ≡ y
-Holds (time x y) = x ≡ y
+abbrev pub ComesOut : Case → Type 0
+ComesOut (number x y) = x ≡ y
+ComesOut (truth x y) = x ≡ y
+ComesOut (positions x y) = x ≡ y
+ComesOut (whole x y) = x ≡ y
+ComesOut (real x y) = x ≡ y
+ComesOut (step x y) = x ≡ y
+ComesOut (time x y) = x ≡ y
 
 abbrev pub All : List Case → Type 0
 All [] = Unit
-All (c ∷ cs) = Holds c × All cs
+All (c ∷ cs) = ComesOut c × All cs
 
 -- 88 07 76 AC and ten zeros
 abbrev pub worked : List ℕ
@@ -58,9 +58,6 @@ check = 49 ∷ 50 ∷ 51 ∷ 52 ∷ 53 ∷ 54 ∷ 55 ∷ 56 ∷ 57 ∷ []
 -- 0.25, 1, 1.5, 3, -1
 abbrev pub quarter : Float
 quarter = fin false 1 (negsuc 1)
-
-abbrev pub one : Float
-one = fin false 1 (pos 0)
 
 abbrev pub oneAndAHalf : Float
 oneAndAHalf = fin false 3 (negsuc 0)

@@ -4,7 +4,7 @@ use mathlib.Core.Path.{_≡_, refl}
 use mathlib.Core.Bool.{true, false}
 use lib.IntN.{pos, negsuc}
 use lib.Ieee.{nan, inf, fin, binary32, sub, mul, div, lt, isNan, ofInt, ofBits, size}
-use Rattle.floats.specs.Zero.{zeroF}
+use Rattle.floats.specs.Numbers.{zeroF}
 use Rattle.cn0.specs.Logarithm.{floorLog, significand, digits, logSteps, tenLog10}
 use Rattle.cn0.specs.Estimate.{signalOf, cn0Of}
 

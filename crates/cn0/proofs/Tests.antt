@@ -11,9 +11,9 @@ use lib.Ieee.Fits.{up-pos, and-i, and-l, eq→eqb}
 use lib.Ieee.Positive.{positive}
 use borrow.Author.Tests.{ltb-true, lt-ltb, not-true, not-false}
 use lib.Ieee.{sub, div, le, isNan}
-use Rattle.floats.specs.Zero.{zeroF}
+use Rattle.floats.specs.Numbers.{zeroF, two}
 use Rattle.floats.proofs.Compare.{or-r, le-not-lt}
-use Rattle.cn0.specs.Estimate.{two, twoMillion, signalOf, cn0Of}
+use Rattle.cn0.specs.Estimate.{twoMillion, signalOf, cn0Of}
 use Rattle.cn0.specs.Logarithm.{logSteps, scale, tenLog10}
 
 no-part : (e : ℤ) → 0 * up e * 1 ≡ 0

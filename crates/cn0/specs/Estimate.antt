@@ -3,11 +3,8 @@
 use mathlib.Core.Bool.{false, _||_, cond}
 use lib.IntN.{pos}
 use lib.Ieee.{Float, fin, binary32, sub, mul, div, lt, isNan}
-use Rattle.floats.specs.Zero.{zeroF}
+use Rattle.floats.specs.Numbers.{zeroF, two}
 use Rattle.cn0.specs.Logarithm.{tenLog10}
-
-abbrev pub two : Float
-two = fin false 1 (pos 1)
 
 -- 15625 * 2 ^ 7
 abbrev pub twoMillion : Float

@@ -23,10 +23,10 @@ use Rattle.search.specs.Answers.{windowNumber, settingsNumber, indexNumber, ans
 use Rattle.words.specs.Words.{littleEndian, floatAt}
 use Rattle.feed.specs.Parts.{Stop, end, failure, Line, refusal, nextBytes, nextNumber, need}
 use Rattle.feed.specs.Lines.{ending, windowLines, samplesLines, indicesLines, linesOf}
-use Rattle.feed.specs.Statement.{Answered, Every}
+use Rattle.feed.specs.Statement.{NotRefused, Every}
 
 abbrev All : List Line → Type 0
-All lines = Every Answered lines
+All lines = Every NotRefused lines
 
 all-bytes : (n : ℕ) (input : List ℕ) (h : List ℕ → List ℕ → List Line)
     → ((part rest : List ℕ) → length part ≡ n → All (h part rest)) → All (nextBytes n input h)
@@ -102,7 +102,7 @@ settings-good : (s : Settings) → leb (s .level) 2 ≡ true → finite (s .thre
 unfolding settingsNumber
 settings-good s a b c = simp (a, b, c)
 
-pub answered : (stop : Stop) (input : List ℕ) → Every Answered (linesOf stop input)
+pub answered : (stop : Stop) (input : List ℕ) → Every NotRefused (linesOf stop input)
 unfolding linesOf
 answered stop input =
     all-number 4 input _ (λ count rest. all-need _ _ _ (λ four.

@@ -53,10 +53,10 @@ abbrev pub OrRefused : List Line → List Line → Type 0
 OrRefused a b = (a ≡ b) ⊎ (a ≡ b ++ (refusal 10 ∷ []))
 
 -- the samples of a window are 9,240 bytes, and its decode finds a message or none: it refuses nothing
-abbrev pub Answered : Line → Type 0
-Answered (head n) = Unit {0}
-Answered (window k s index part) = (length part ≡ 9240) × (decodeOf (tabulate 2310 (floatAt part)) s index .number ≤ 1)
-Answered (refusal n) = Unit {0}
+abbrev pub NotRefused : Line → Type 0
+NotRefused (head n) = Unit {0}
+NotRefused (window k s index part) = (length part ≡ 9240) × (decodeOf (tabulate 2310 (floatAt part)) s index .number ≤ 1)
+NotRefused (refusal n) = Unit {0}
 
 abbrev pub Every : (Line → Type 0) → List Line → Type 0
 Every P [] = Unit {0}
@@ -71,7 +71,7 @@ pub record Feeds : Type 0 where
   -- would have been good.
   pub broken : (input : List ℕ) → OrRefused (linesOf failure input) (linesOf end input)
   -- Of a window is said what a decode answers.
-  pub answered : (stop : Stop) (input : List ℕ) → Every Answered (linesOf stop input)
+  pub answered : (stop : Stop) (input : List ℕ) → Every NotRefused (linesOf stop input)
   -- Whatever the state and the part, fewer are left after a step: a program that goes on while something is wanted ends.
   pub nearer : (s : State) (part : List ℕ) → wantedOf s ≢ 0 → leftOf (fedOf s part .state) < leftOf s
   pub nearer-failed : (s : State) → wantedOf s ≢ 0 → leftOf (failedOf s .state) < leftOf s

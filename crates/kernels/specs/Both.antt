@@ -6,7 +6,7 @@ use Prim.Native.Nat.{ℕ}
 use lib.Dec.{eqb}
 use lib.ListN.{length}
 use lib.Ieee.{Float}
-use Rattle.floats.specs.Zero.{zeroF}
+use Rattle.floats.specs.Numbers.{zeroF}
 use Rattle.kernels.specs.declared.both.Powers.{Powers}
 use Rattle.kernels.specs.Powers.{powerOf, noiseOf}
 

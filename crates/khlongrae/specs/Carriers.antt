@@ -6,7 +6,7 @@ use Prim.Native.Nat.{ℕ}
 use lib.Ieee.{Float}
 use Rattle.lists.specs.Bits.{asBit}
 use Rattle.lists.specs.Told.{Told}
-use Rattle.floats.specs.Zero.{zeroF}
+use Rattle.floats.specs.Numbers.{zeroF}
 use Rattle.carrier.specs.Carriers.{CarrierValues}
 use Rattle.khlongrae.specs.declared.spectrum.FlatSearch.{FlatSearch}
 use Rattle.khlongrae.specs.declared.spectrum.FlatFloor.{FlatFloor}

@@ -1,7 +1,7 @@
 -- Complex numbers of two binary32 floats: each operation is rounded once.
 -- Assumes nothing.
 use lib.Ieee.{Float, binary32, add, mul}
-use Rattle.floats.specs.Zero.{zeroF}
+use Rattle.floats.specs.Numbers.{zeroF}
 use Rattle.math.specs.declared.Complex.{Complex}
 
 -- zero: both parts are 0.0

@@ -2,11 +2,7 @@
 -- Assumes nothing.
 use mathlib.Core.Bool.{cond}
 use lib.Ieee.{Float, binary32, ofBits, add, sub, mul, div, neg, eq}
-use Rattle.floats.specs.Zero.{zeroF}
-
--- 2.0
-abbrev pub two : Float
-two = ofBits binary32 0x40000000
+use Rattle.floats.specs.Numbers.{zeroF, two}
 
 -- -0.5
 abbrev pub minusHalf : Float

@@ -2,7 +2,7 @@
 -- Assumes nothing.
 use Prim.Native.Nat.{ℕ, zero, suc}
 use lib.Ieee.{Float, binary32, add}
-use Rattle.floats.specs.Zero.{zeroF}
+use Rattle.floats.specs.Numbers.{zeroF}
 
 -- ((0.0 + f 0) + f 1) + .. + f (n - 1)
 unfoldable pub total : (ℕ → Float) → ℕ → Float

@@ -34,7 +34,7 @@ use Rattle.search.specs.Window.{Window}
 use Rattle.search.specs.Kinds.{long}
 use Rattle.search.specs.Seen.{row, promptAt, windowOf}
 use Rattle.search.specs.When.{promptOf, about, timingAt, indexOf}
-use Rattle.floats.specs.Zero.{zeroF}
+use Rattle.floats.specs.Numbers.{zeroF}
 use Rattle.search.specs.Answers.{orNumber, windowNumber, settingsNumber, indexNumber, placeNumber, noCandidate, refusedAnswer, survivorOf, survivorOr, readAt, bestOf, arrivalAt, answerOf, decodeOf}
 use Rattle.search.proofs.Scanning.{scan-from, survivor-is, not-some}
 use Rattle.receiver.specs.Inner.{powerIn, seenIn, arrivalIn}

@@ -28,7 +28,7 @@ use Rattle.mode_s.specs.Step.{crcStep}
 use Rattle.mode_s.proofs.Turn.{one-more}
 use Rattle.streams.specs.Streams.{messageAt}
 use Rattle.rolling.specs.Rolling.{crcOf}
-use Rattle.rolling.specs.Inner.{next, First, wordsAt}
+use Rattle.rolling.specs.Inner.{rollOf, First, wordsAt}
 
 pub word-whole : (bs : List ℕ) (n : ℕ) → getD bs n 0 < 256 → getD bs (n + 1) 0 < 256 → getD bs (n + 2) 0 < 256 → getD bs (n + 3) 0 < 256
     → getD bs n 0 * 0x1000000 + getD bs (n + 1) 0 * 0x10000 + getD bs (n + 2) 0 * 0x100 + getD bs (n + 3) 0 ≡ value (bitAt bs) (8 * n) 32
@@ -67,8 +67,8 @@ doubled-low crc h =
     sym (ap (λ (x : ℕ). less (x / 2 ^ 24) x) e ∙ ap (λ (x : ℕ). less x (crc * 2)) q)
 
 pub turned : (bs : List ℕ) (o : ℕ) {crc leaving entering : ℕ} → crc ≡ remainder (messageAt bs 14 o) → leaving ≡ bitAt bs o → entering ≡ bitAt bs (o + 112)
-    → next crc leaving entering ≡ remainder (messageAt bs 14 (o + 1))
-unfolding next messageAt
+    → rollOf crc leaving entering ≡ remainder (messageAt bs 14 (o + 1))
+unfolding rollOf messageAt
 turned bs o {crc} {leaving} {entering} e l n =
     sym (xor-assoc (bring crc 0) (divide entering (replicate 24 0)) (divide leaving (replicate 136 0)))
     ∙ ap (λ (x : ℕ). bitXor (bitXor (bring x 0) (divide entering (replicate 24 0))) (divide leaving (replicate 136 0))) e
@@ -153,7 +153,7 @@ word-there bs words n s h e =
 -- one step: number i from number i - 8
 pub crc-next : (bs leaving entering : List ℕ) (o s : ℕ) {r crc : ℕ} → s < 8 → 1 ≤ o → o < 32 → leaving ≡ wordsAt bs 0 → entering ≡ wordsAt bs 14
     → crc ≡ crcOf bs (8 * o + s - 8)
-    → r ≡ next crc (bitAnd (getD leaving s 0 / 2 ^ (32 - o)) 1) (bitAnd (getD entering s 0 / 2 ^ (32 - o)) 1)
+    → r ≡ rollOf crc (bitAnd (getD leaving s 0 / 2 ^ (32 - o)) 1) (bitAnd (getD entering s 0 / 2 ^ (32 - o)) 1)
     → r ≡ crcOf bs (8 * o + s)
 crc-next bs leaving entering o s {r} {crc} h l g el ee ec e =
     let b = o - 1 in

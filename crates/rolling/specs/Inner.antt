@@ -10,8 +10,8 @@ use Rattle.lists.specs.Bits.{bitAt, value}
 use Rattle.annex10.specs.Remainder.{bring, divide, remainder}
 
 -- a remainder one bit on
-unfoldable pub next : ℕ → ℕ → ℕ → ℕ
-next crc leaving entering = bitXor (bring crc 0) (bitXor (divide entering (replicate 24 0)) (divide leaving (replicate 136 0)))
+unfoldable pub rollOf : ℕ → ℕ → ℕ → ℕ
+rollOf crc leaving entering = bitXor (bring crc 0) (bitXor (divide entering (replicate 24 0)) (divide leaving (replicate 136 0)))
 
 -- the first eight numbers are the remainders of the first n bytes of eight streams of 18 bytes
 pub record First (streams : List ℕ) (n : ℕ) (crcs : List ℕ) : Type 0 where

@@ -9,7 +9,7 @@ ghost use Rattle.lists.specs.Bits.{bitAt, value};
 ghost use Rattle.lists.proofs.Table.{Done};
 ghost use Rattle.mode_s.specs.Inner.{ByteTable};
 ghost use Rattle.rolling.specs.Rolling.{crcOf, crcsOf, crcsInto};
-ghost use Rattle.rolling.specs.Inner.{next, First, wordsAt};
+ghost use Rattle.rolling.specs.Inner.{rollOf, First, wordsAt};
 
 // The 32 bits from byte n on, the first highest.
 fn word_at(bytes: &[u8], n: usize) -> u32
@@ -56,7 +56,7 @@ fn left(bit: u32) -> u32
 
 fn roll(crc: u32, leaving: u32, entering: u32) -> u32
     requires { ⌜ (crc < 2 ^ 24) × (leaving < 2) × (entering < 2) ⌝ }
-    ensures { λ r. ⌜ r ≡ next crc leaving entering ⌝ }
+    ensures { λ r. ⌜ r ≡ rollOf crc leaving entering ⌝ }
 {
     doubled(crc) ^ (entered(entering) ^ left(leaving))
 }

@@ -4,7 +4,7 @@ use mathlib.Core.Bool.{Bool, true, false, cond}
 use Prim.Native.Nat.{ℕ, suc}
 use lib.IntN.{ℤ, pos, negsuc, _+ℤ_}
 use lib.Ieee.{Float, fin, binary32, add, sub, lt, le}
-use Rattle.floats.specs.Zero.{zeroF}
+use Rattle.floats.specs.Numbers.{zeroF}
 use Rattle.timing.specs.declared.Offset.{Offset}
 use Rattle.timing.specs.declared.Offset.the-variants.{Earlier, Same, Later}
 use Rattle.timing.specs.declared.Moves.{Moves}

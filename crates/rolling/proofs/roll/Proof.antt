@@ -1,6 +1,6 @@
 -- `rolling::roll` meets its contract. Assumes nothing.
 use borrow.Author.Needs.{needs}
-use Rattle.rolling.specs.Inner.{next}
+use Rattle.rolling.specs.Inner.{rollOf}
 use Rattle.rolling.proofs.roll.Statement.{statement}
 use Rattle.rolling.proofs.roll.Tie as tie
 
@@ -14,7 +14,7 @@ left-requires : tie.Need-left-requires
 left-requires c κs = search needs
 
 returns : tie.Need-returns
-unfolding next
+unfolding rollOf
 returns c = rw (c .before .before .doubled .ensures, c .before .entered .ensures, c .left .ensures)
 
 pub roll-spec : {M : Type 1} → statement M

@@ -7,7 +7,7 @@ use native.Mathlib.Omega.{arith}
 use mathlib.Core.Bool.{true}
 use mathlib.Core.Logic.{⊎-elim}
 use mathlib.Core.Option.{none}
-use Prim.Native.Nat.{ℕ, _-_, _≤_}
+use Prim.Native.Nat.{ℕ, _-_, _≤_, _<_}
 use Rattle.lists.specs.From.{tabulate}
 use Rattle.place.specs.declared.Place.{Place}
 use Rattle.place.specs.All.{listed, placeAt}
@@ -78,7 +78,7 @@ loop-again : tie.Need-loop-again Inv-loop μ-loop
 loop-again c =
     let l = c .before .before .before .before .before .loop in
     let s = c .before .before .before .before .before .before .before .before .before .before .before .before .before in
-    let h = c .before .before .before .before .loop-test .taken in
+    let h : l .k < 248 = omega arith in
     let f = candidateAt long (s .args .s) (windowOf 14 (s .args .samples .now)) in (
       omega arith,
       ⊎-elim

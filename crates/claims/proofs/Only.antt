@@ -8,7 +8,8 @@ use Prim.Native.Nat.{ℕ, zero, suc}
 use native.Mathlib.Omega.{arith}
 use native.Mathlib.Decide.{ℕ-discrete}
 use lib.IntN.{pos}
-use lib.Ieee.{Float, binary32, ofBits, eq, isNan}
+use lib.Ieee.{Float, ofBits, eq, isNan}
+use Rattle.floats.specs.Numbers.{zeroF}
 use Rattle.timing.specs.Exact.{LessBy}
 use Rattle.timing.proofs.Valued.{less-same}
 use Rattle.search.specs.declared.Settings.{Settings}
@@ -19,7 +20,7 @@ use Rattle.claims.specs.Timing.{fractionFor, movesFor, WellTimed}
 use Rattle.claims.specs.Audited.{Returned, Zeros, Answered, Same}
 use Rattle.claims.proofs.Uses.{long-search}
 
-zero-is : eq (ofBits binary32 0) (ofBits binary32 0) ≡ true
+zero-is : eq zeroF zeroF ≡ true
 unfolding eq ofBits
 zero-is = refl
 

@@ -6,7 +6,8 @@ use mathlib.Core.List.{List}
 use mathlib.Core.Logic.{_⊎_, _↔_, _≢_}
 use Prim.Native.Nat.{ℕ, _≤_, _<_}
 use lib.ListN.{replicate}
-use lib.Ieee.{Float, binary32, ofBits, eq, isNan}
+use lib.Ieee.{Float, eq, isNan}
+use Rattle.floats.specs.Numbers.{zeroF}
 use Rattle.lists.specs.Bits.{bitAt}
 use Rattle.annex10.specs.Repair.{count, Named, repaired}
 use Rattle.annex10.specs.declared.Repairs.{Repairs}
@@ -45,9 +46,9 @@ pub record Zeros (a : Answer) : Type 0 where
   pub message : a .message ≡ replicate 14 0
   pub repairs : a .repairs ≡ None
   pub slicer : a .slicer ≡ Coherent
-  pub cn0 : a .cn0 ≡ ofBits binary32 0
+  pub cn0 : a .cn0 ≡ zeroF
   pub index : a .index ≡ 0
-  pub fraction : a .fraction ≡ ofBits binary32 0
+  pub fraction : a .fraction ≡ zeroF
 
 -- Every answer.
 pub record Answered (samples : List Float) (s : Settings) (index : ℕ) (a : Answer) : Type 0 where

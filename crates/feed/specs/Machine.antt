@@ -7,6 +7,7 @@ use lib.Dec.{eqb, leb, ltb}
 use lib.Ieee.{binary32, ofBits}
 use lib.Ieee.Scale.{finite}
 use lib.ListN.{length, getD, set, replicate}
+use Rattle.floats.specs.Numbers.{zeroF}
 use Rattle.search.specs.declared.Settings.{Settings}
 use Rattle.search.specs.Answers.{indexNumber}
 use Rattle.words.specs.Words.{littleEndian}
@@ -44,7 +45,7 @@ abbrev pub blankOf : Stage → State
 blankOf stage =
     record {
       stage = stage;
-      settings = record { level = 0; threshold = ofBits binary32 0; second = ofBits binary32 0; distance = 0 };
+      settings = record { level = 0; threshold = zeroF; second = zeroF; distance = 0 };
       windows = 0;
       done = 0;
       indices = replicate 64 0;

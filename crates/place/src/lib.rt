@@ -16,7 +16,7 @@ pub struct Place {
     pub symbol: usize,
 }
 
-// A neighbour, or the refusal's number.
+// A place, or the refusal's number.
 pub enum Stepped {
     To(Place),
     Refused(u32),

@@ -1,14 +1,25 @@
 """How every tool is called: `--help` prints the text at the tool's top, and a wrong call is one line and status 2."""
 import argparse
+import importlib.machinery
+import importlib.util
 import os
 import sys
 
-NAME = os.path.basename(sys.argv[0])
+HERE = os.path.dirname(os.path.realpath(__file__))
+NAME = os.path.basename(sys.argv[0]).removesuffix(".py")
+
+
+def say(text):
+    """a line on standard error, if there is one"""
+    try:
+        os.write(2, f"{NAME}: {text}\n".encode("utf-8", "surrogateescape"))
+    except OSError:
+        pass
 
 
 def stop(why):
     """the call cannot be met: one line, status 2"""
-    sys.stderr.write(f"{NAME}: {why}\n")
+    say(why)
     sys.exit(2)
 
 
@@ -32,14 +43,26 @@ class Words(argparse.ArgumentParser):
         super().__init__(prog=NAME, allow_abbrev=False)
         self.text = text
 
-    def one_of(self, *options, needed=False):
-        """options of which at most one, or exactly one, is given: the word itself, or None, as the field `asked`"""
-        group = self.add_mutually_exclusive_group(required=needed)
-        for option in options:
-            group.add_argument(option, dest="asked", action="store_const", const=option)
-
     def format_help(self):
         return self.text.lstrip("\n")
 
     def error(self, message):
         stop(f"{message} (--help says how it is called)")
+
+
+def one_of(text, *options, needed=True):
+    """the one word of a call that has no others"""
+    words = Words(text)
+    group = words.add_mutually_exclusive_group(required=needed)
+    for option in options:
+        group.add_argument(option, dest="asked", action="store_const", const=option)
+    return words.parse_args().asked
+
+
+def tool(name):
+    """another tool of this folder, as a module"""
+    sys.dont_write_bytecode = True
+    loader = importlib.machinery.SourceFileLoader(name.replace("-", "_"), os.path.join(HERE, name))
+    module = importlib.util.module_from_spec(importlib.util.spec_from_loader(loader.name, loader))
+    loader.exec_module(module)
+    return module

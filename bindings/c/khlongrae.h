@@ -10,9 +10,9 @@
  *
  * The calls reckon in the default float environment: round to nearest, ties to even; no flush to zero and no denormals as zero;
  * exceptions masked. The proof covers no other: answers can then differ from the definitions, and from those of another machine.
- * Tried on x86-64: with another rounding every call ended, and cn0 and fraction had other bits; with flush to zero or denormals as zero
- * every call ended, and samples of 1e-19 and less gave other answers or none; an exception that was not masked was raised in the
- * call. A call sets no mode, and may leave exception flags behind.
+ * Decodes were tried in others on x86-64: with another rounding each ended, and many answers had other bits in cn0 and fraction; with
+ * flush to zero or denormals as zero each ended, and windows with pulses of 1e-19 and less gave other answers or none; an exception
+ * that was not masked was raised in the call. A call sets no mode, and may leave exception flags behind.
  *
  * A call answers 0, or the number of its refusal. A refused call leaves lent memory as it was, and a struct that it answers holds
  * zeros but for the number. Where several refusals apply, the lowest number from 2 up is answered.

@@ -37,7 +37,8 @@ pub enum Carrier {
 /// The strongest bin within `search` of the middle: the first greatest above 0, or the first bin and 0 if there is none.
 ///
 /// # Errors
-/// [`Refusal::InputLength`] where the spectrum has no such length, [`Refusal::HalfWidth`] where `search` is above N/2 - 2.
+/// Of a spectrum of N floats: [`Refusal::InputLength`] where N is odd, below 4 or above 4,096, [`Refusal::HalfWidth`] where `search` is
+/// above N/2 - 2.
 pub fn long_fft_max_search(spectrum: &[f32], search: usize) -> Result<Strongest, Refusal> {
     let mut answer = MaybeUninit::<raw::Search>::uninit();
     // SAFETY: the spectrum is good for its length, the answer for being written; every call writes all of it.
@@ -52,8 +53,8 @@ pub fn long_fft_max_search(spectrum: &[f32], search: usize) -> Result<Strongest,
 /// The power outside of bin - notch to bin + notch.
 ///
 /// # Errors
-/// [`Refusal::InputLength`] where the spectrum has no such length, [`Refusal::Place`] where it has no such bin, [`Refusal::HalfWidth`]
-/// where the notch is not below N.
+/// Of a spectrum of N floats: [`Refusal::InputLength`] where N is odd, below 4 or above 4,096, [`Refusal::Place`] where the bin is not
+/// below N, [`Refusal::HalfWidth`] where the notch is not.
 pub fn carrier_notched_power(spectrum: &[f32], bin: usize, notch: usize) -> Result<f32, Refusal> {
     // SAFETY: the pointer is good for its length.
     let answer = unsafe { raw::khlongrae_carrier_notched_power(spectrum.as_ptr(), spectrum.len(), bin, notch) };
@@ -64,8 +65,8 @@ pub fn carrier_notched_power(spectrum: &[f32], bin: usize, notch: usize) -> Resu
 /// The carrier call: a peak where its value is at least the threshold times the floor.
 ///
 /// # Errors
-/// [`Refusal::InputLength`] where the spectrum has no such length, [`Refusal::Threshold`] where the threshold is below 0, infinite or no
-/// number, [`Refusal::HalfWidth`] where `search` is above N/2 - 2 or the notch is not below N.
+/// Of a spectrum of N floats: [`Refusal::InputLength`] where N is odd, below 4 or above 4,096, [`Refusal::Threshold`] where the threshold
+/// is below 0 (-0.0 is taken), infinite or no number, [`Refusal::HalfWidth`] where `search` is above N/2 - 2 or the notch is not below N.
 pub fn check_carrier_metric(spectrum: &[f32], search: usize, notch: usize, threshold: f32) -> Result<Carrier, Refusal> {
     let mut answer = MaybeUninit::<raw::Carrier>::uninit();
     // SAFETY: the spectrum is good for its length, the answer for being written; every call writes all of it.

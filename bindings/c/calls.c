@@ -1,7 +1,8 @@
 /* calls: each function of khlongrae.h is called with known answers, and refused, and lent memory must stay as it was where a call
- * is refused. Ends with status 0 if all is as it must be. C and C++ alike. */
+ * is refused. Ends with status 0 if all is as it must be. C and C++ alike; fenv.h needs -lm. */
 #include "khlongrae.h"
 
+#include <fenv.h>
 #include <math.h>
 #include <stdio.h>
 #include <string.h>
@@ -33,7 +34,7 @@ static void transmit(const uint8_t *message, int from) {
 struct lent {
     uint8_t message[15];
     uint64_t words[9];
-    float numbers[3];
+    float floats[3];
 };
 static struct lent pattern, lent;
 
@@ -43,14 +44,14 @@ struct call {
     float threshold, second;
     uint32_t distance;
     uint64_t index;
-    size_t message, words, numbers;
+    size_t message, words, floats;
 };
 static const struct call GOOD = {KHLONGRAE_WINDOW, 2, 67, 71, 8, 128, KHLONGRAE_MESSAGE, KHLONGRAE_WORDS, KHLONGRAE_FLOATS};
 
 static uint32_t decode(struct call c) {
     lent = pattern;
     return khlongrae_decode(samples, c.samples, c.level, c.threshold, c.second, c.distance, c.index, lent.message, c.message, lent.words,
-                            c.words, lent.numbers, c.numbers);
+                            c.words, lent.floats, c.floats);
 }
 
 static int unchanged(void) { return memcmp(&lent, &pattern, sizeof lent) == 0; }
@@ -72,14 +73,14 @@ static void decodes(void) {
     CHECK(decode(GOOD) == KHLONGRAE_DONE);
     CHECK(memcmp(lent.message, WORKED, 14) == 0 && lent.message[14] == 0xA5);
     CHECK(memcmp(lent.words, found, sizeof found) == 0 && lent.words[8] == pattern.words[8]);
-    CHECK(isinf(lent.numbers[KHLONGRAE_FLOAT_CN0]) && lent.numbers[KHLONGRAE_FLOAT_FRACTION] == -0.5f);
+    CHECK(isinf(lent.floats[KHLONGRAE_FLOAT_CN0]) && lent.floats[KHLONGRAE_FLOAT_FRACTION] == -0.5f);
 
     REFUSED(KHLONGRAE_INPUT_LENGTH, c.samples = KHLONGRAE_WINDOW - 1);
     REFUSED(KHLONGRAE_INPUT_LENGTH, c.samples = 0);
     REFUSED(KHLONGRAE_OUTPUT_LENGTH, c.message = 13);
     REFUSED(KHLONGRAE_OUTPUT_LENGTH, c.message = 15);
     REFUSED(KHLONGRAE_OUTPUT_LENGTH, c.words = 9);
-    REFUSED(KHLONGRAE_OUTPUT_LENGTH, c.numbers = 3);
+    REFUSED(KHLONGRAE_OUTPUT_LENGTH, c.floats = 3);
     REFUSED(KHLONGRAE_LEVEL, c.level = 3);
     REFUSED(KHLONGRAE_THRESHOLD, c.threshold = NAN);
     REFUSED(KHLONGRAE_THRESHOLD, c.second = INFINITY);
@@ -97,6 +98,28 @@ static void decodes(void) {
     REFUSED(KHLONGRAE_NO_MESSAGE, (void)c);
 }
 
+/* what the header says of another rounding: the call ends, its floats have other bits, and the rounding stays as it was set */
+static void environments(void) {
+    static const int roundings[3] = {FE_UPWARD, FE_DOWNWARD, FE_TOWARDZERO};
+    float kept[KHLONGRAE_FLOATS];
+    uint32_t noise = 1;
+    transmit(WORKED, 128);
+    for (int i = 0; i < KHLONGRAE_WINDOW; i++) {
+        noise = noise * 1664525u + 1013904223u;
+        samples[i] += (float)(noise >> 8) / 16777216.0f - 0.5f;
+    }
+    CHECK(decode(GOOD) == KHLONGRAE_DONE);
+    memcpy(kept, lent.floats, sizeof kept);
+    for (int i = 0; i < 3; i++) {
+        CHECK(fesetround(roundings[i]) == 0);
+        uint32_t number = decode(GOOD);
+        CHECK(fegetround() == roundings[i]);
+        CHECK(fesetround(FE_TONEAREST) == 0);
+        CHECK(number == KHLONGRAE_DONE && memcmp(lent.floats, kept, sizeof kept) != 0);
+    }
+    CHECK(decode(GOOD) == KHLONGRAE_DONE && memcmp(lent.floats, kept, sizeof kept) == 0);
+}
+
 static void messages(void) {
     uint8_t line[32], kept[32], one[14] = {0};
     memset(kept, 0xA5, sizeof kept);
@@ -105,7 +128,8 @@ static void messages(void) {
     CHECK(khlongrae_avr(WORKED, 14, line, 31) == KHLONGRAE_OUTPUT_LENGTH && memcmp(line, kept, sizeof line) == 0);
     CHECK(khlongrae_avr(WORKED, 14, line, 30) == KHLONGRAE_DONE);
     CHECK(memcmp(line, "*880776AC00000000000000000000;\xA5\xA5", 32) == 0);
-    CHECK(khlongrae_avr(WORKED, 7, line, 16) == KHLONGRAE_DONE && memcmp(line, "*880776AC000000;", 16) == 0);
+    CHECK(khlongrae_avr(WORKED, KHLONGRAE_SHORT_MESSAGE, line, KHLONGRAE_SHORT_LINE) == KHLONGRAE_DONE);
+    CHECK(memcmp(line, "*880776AC000000;", 16) == 0);
 
     CHECK(khlongrae_remainder(WORKED, 14) == 0);
     CHECK(khlongrae_remainder(NULL, 0) == 0);
@@ -164,6 +188,7 @@ static void carriers(void) {
 int main(void) {
     CHECK(khlongrae_version() == KHLONGRAE_VERSION);
     decodes();
+    environments();
     messages();
     headers();
     carriers();

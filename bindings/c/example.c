@@ -63,10 +63,10 @@ int main(int count, char **words_given) {
     for (unsigned k = 0; k < windows; k++) {
         uint8_t message[KHLONGRAE_MESSAGE];
         uint64_t words[KHLONGRAE_WORDS];
-        float numbers[KHLONGRAE_FLOATS];
+        float floats[KHLONGRAE_FLOATS];
         for (int i = 0; i < KHLONGRAE_WINDOW; i++) samples[i] = read_float(file);
         uint32_t number = khlongrae_decode(samples, KHLONGRAE_WINDOW, level, threshold, second, distance, indices[k], message,
-                                           KHLONGRAE_MESSAGE, words, KHLONGRAE_WORDS, numbers, KHLONGRAE_FLOATS);
+                                           KHLONGRAE_MESSAGE, words, KHLONGRAE_WORDS, floats, KHLONGRAE_FLOATS);
         if (number == KHLONGRAE_DONE) {
             print_found(k, message, words);
         } else if (number == KHLONGRAE_NO_MESSAGE) {

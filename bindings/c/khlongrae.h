@@ -5,8 +5,14 @@
  * less than 64 kB of stack.
  *
  * A slice is a pointer and a length, in elements. The library checks every length itself and refuses a wrong one. What it cannot
- * check is left to the caller: that a pointer is good for its length (with length 0 it may be null), and that memory which a call
- * writes overlaps no other memory of the call.
+ * check is left to the caller: that a pointer is good for its length (with length 0 it may be null), that it is aligned for the type
+ * of its elements, as C has it, and that memory which a call writes overlaps no other memory of the call.
+ *
+ * The calls reckon in the default float environment: round to nearest, ties to even; no flush to zero and no denormals as zero;
+ * exceptions masked. The proof covers no other: answers can then differ from the definitions, and from those of another machine.
+ * Decodes were tried in others on x86-64: with another rounding each ended, and many answers had other bits in cn0 and fraction; with
+ * flush to zero or denormals as zero each ended, and windows with pulses of 1e-19 and less gave other answers or none; an exception
+ * that was not masked was raised in the call. A call sets no mode, and may leave exception flags behind.
  *
  * A call answers 0, or the number of its refusal. A refused call leaves lent memory as it was, and a struct that it answers holds
  * zeros but for the number. Where several refusals apply, the lowest number from 2 up is answered.
@@ -38,13 +44,15 @@ enum khlongrae_number {
     KHLONGRAE_HALF_WIDTH = 9     /* a half-width that is too large for the spectrum */
 };
 
-/* The lengths that khlongrae_decode and khlongrae_avr take. */
+/* The lengths that khlongrae_decode and khlongrae_avr take. bindings/rust has each under the same name, without the prefix. */
 enum khlongrae_length {
     KHLONGRAE_WINDOW = 2310,     /* numbers of a window: 1,155 samples, each a real part and an imaginary part */
     KHLONGRAE_MESSAGE = 14,      /* bytes of a message */
+    KHLONGRAE_SHORT_MESSAGE = 7, /* bytes of a short one, for khlongrae_avr */
     KHLONGRAE_WORDS = 8,         /* whole numbers of a decode */
     KHLONGRAE_FLOATS = 2,        /* floats of a decode */
-    KHLONGRAE_LINE = 30          /* bytes of the AVR line of a message of 14 bytes; 16 for one of 7 */
+    KHLONGRAE_LINE = 30,         /* bytes of the AVR line of a message */
+    KHLONGRAE_SHORT_LINE = 16    /* bytes of that of a short one */
 };
 
 /* The whole numbers of a decode, by their place in `words`. */
@@ -64,7 +72,7 @@ enum khlongrae_slicer {
     KHLONGRAE_NONCOHERENT = 1    /* by the norm */
 };
 
-/* The floats of a decode, by their place in `numbers`. Either is no number where the samples are such that none can be told. */
+/* The floats of a decode, by their place in `floats`. Either is no number where the samples are such that none can be told. */
 enum khlongrae_float {
     KHLONGRAE_FLOAT_CN0 = 0,     /* how far the signal stood above the noise, in dB Hz; infinite where there was no noise */
     KHLONGRAE_FLOAT_FRACTION = 1 /* how far between two samples the message came, from -0.5 to below 0.5, to add to the index */
@@ -84,12 +92,12 @@ uint32_t khlongrae_version(void);
  *   index      the receiver's number of the window's sample 128
  *   message    14 bytes: the message after its repairs. To see what was received, turn the repaired bits over again
  *   words      8 whole numbers: see enum khlongrae_word
- *   numbers    2 floats: see enum khlongrae_float
+ *   floats     2 floats: see enum khlongrae_float
  *
  * Answers 0 and has written all three outputs, or 1, 2, 3, 4, 5 or 6 and has written nothing. */
 uint32_t khlongrae_decode(const float *samples, size_t samples_len, uint32_t level, float threshold, float second, uint32_t distance,
-                          uint64_t index, uint8_t *message, size_t message_len, uint64_t *words, size_t words_len, float *numbers,
-                          size_t numbers_len);
+                          uint64_t index, uint8_t *message, size_t message_len, uint64_t *words, size_t words_len, float *floats,
+                          size_t floats_len);
 
 /* Writes the AVR line of a message of 7 or 14 bytes: `*`, two capital hex digits for each byte, `;`. The line has exactly 16 or 30
  * bytes, with no zero behind it. Answers 0, or 2 (another length of the message), or 3 (another length of the line). */

@@ -1,71 +1,39 @@
-//! decode FILE: decodes each window of a file, such as samples/listing.win, and prints a line for each. docs/WINDOWS.md says what
-//! the file holds.
-use khlongrae::{Answer, LINE, Refusal, Repairs, Settings, Slicer, WINDOW};
+//! decode FILE: decodes each window of a file, such as samples/listing.win, and prints a line for each; `-` is standard input.
+//! docs/WINDOWS.md says what the file holds. A file that is refused ends with a sentence and the number of its refusal.
+use khlongrae::{Answer, FileError, VERSION, Windows, decode, version};
 use std::error::Error;
+use std::fs::File;
+use std::io::{Read, Write, stdin, stdout};
+use std::process::ExitCode;
 
-/// What is left of the file.
-struct Rest<'a>(&'a [u8]);
-
-impl Rest<'_> {
-    fn bytes<const N: usize>(&mut self) -> Result<[u8; N], Box<dyn Error>> {
-        let (first, rest) = self.0.split_first_chunk().ok_or("the file ends early")?;
-        self.0 = rest;
-        Ok(*first)
-    }
-    fn word(&mut self) -> Result<u32, Box<dyn Error>> {
-        Ok(u32::from_le_bytes(self.bytes()?))
-    }
-    fn long(&mut self) -> Result<u64, Box<dyn Error>> {
-        Ok(u64::from_le_bytes(self.bytes()?))
-    }
-    fn float(&mut self) -> Result<f32, Box<dyn Error>> {
-        Ok(f32::from_le_bytes(self.bytes()?))
-    }
+fn told(error: FileError) -> String {
+    format!("refused {}: {error}", error.number())
 }
 
-fn line_of(answer: &Answer) -> Result<String, Refusal> {
-    let mut line = [0; LINE];
-    khlongrae::avr(&answer.message, &mut line)?;
-    let place = answer.place;
-    let slicer = match answer.slicer {
-        Slicer::Coherent => 'C',
-        Slicer::Noncoherent => 'N',
-    };
-    let repairs = match answer.repairs {
-        Repairs::None => "0".to_string(),
-        Repairs::One(j) => format!("1:{j}"),
-        Repairs::Two(j, k) => format!("2:{j},{k}"),
-    };
-    let text = String::from_utf8_lossy(&line);
-    Ok(format!("{text} place {},{},{} index {} slicer {slicer} repairs {repairs}", place.bit, place.phase, place.symbol, answer.index))
-}
-
-fn main() -> Result<(), Box<dyn Error>> {
-    if khlongrae::version() != khlongrae::VERSION {
+fn run() -> Result<(), Box<dyn Error>> {
+    if version() != VERSION {
         return Err("the library has another interface".into());
     }
     let path = std::env::args_os().nth(1).ok_or("usage: decode FILE")?;
-    let content = std::fs::read(path)?;
-    let mut file = Rest(&content);
-    if file.word()? != 4 {
-        return Err("there are four settings".into());
-    }
-    let settings = Settings { level: file.word()?, threshold: file.float()?, second: file.float()?, distance: file.word()? };
-    let windows = file.word()?;
-    let indices = (0..windows).map(|_| file.long()).collect::<Result<Vec<_>, _>>()?;
-    if u64::from(file.word()?) != WINDOW as u64 * u64::from(windows) {
-        return Err("a window has 2,310 numbers".into());
-    }
-    for (window, index) in indices.into_iter().enumerate() {
-        let mut samples = [0.0; WINDOW];
-        for sample in &mut samples {
-            *sample = file.float()?;
-        }
-        match khlongrae::decode(&samples, settings, index) {
-            Ok(answer) => println!("{window} {}", line_of(&answer)?),
-            Err(Refusal::NoMessage) => println!("{window} none"),
-            Err(refusal) => println!("{window} refused {}", refusal.number()),
+    let input: Box<dyn Read> = if path == "-" { Box::new(stdin()) } else { Box::new(File::open(path)?) };
+    let windows = Windows::new(input).map_err(told)?;
+    let settings = windows.settings();
+    let mut output = stdout();
+    for (k, window) in windows.enumerate() {
+        let window = window.map_err(told)?;
+        match decode(&window.samples, settings, window.index)? {
+            None => writeln!(output, "{k} none")?,
+            Some(found) => {
+                let Answer { place, index, slicer, repairs, .. } = found;
+                writeln!(output, "{k} {} place {place} index {index} slicer {slicer} repairs {repairs}", found.avr())?;
+            }
         }
     }
     Ok(())
+}
+
+fn main() -> ExitCode {
+    let Err(why) = run() else { return ExitCode::SUCCESS };
+    eprintln!("decode: {why}");
+    ExitCode::from(2)
 }

@@ -35,6 +35,10 @@ pub enum Carrier {
 }
 
 /// The strongest bin within `search` of the middle: the first greatest above 0, or the first bin and 0 if there is none.
+///
+/// # Errors
+/// Of a spectrum of N floats: [`Refusal::InputLength`] where N is odd, below 4 or above 4,096, [`Refusal::HalfWidth`] where `search` is
+/// above N/2 - 2.
 pub fn long_fft_max_search(spectrum: &[f32], search: usize) -> Result<Strongest, Refusal> {
     let mut answer = MaybeUninit::<raw::Search>::uninit();
     // SAFETY: the spectrum is good for its length, the answer for being written; every call writes all of it.
@@ -47,6 +51,10 @@ pub fn long_fft_max_search(spectrum: &[f32], search: usize) -> Result<Strongest,
 }
 
 /// The power outside of bin - notch to bin + notch.
+///
+/// # Errors
+/// Of a spectrum of N floats: [`Refusal::InputLength`] where N is odd, below 4 or above 4,096, [`Refusal::Place`] where the bin is not
+/// below N, [`Refusal::HalfWidth`] where the notch is not.
 pub fn carrier_notched_power(spectrum: &[f32], bin: usize, notch: usize) -> Result<f32, Refusal> {
     // SAFETY: the pointer is good for its length.
     let answer = unsafe { raw::khlongrae_carrier_notched_power(spectrum.as_ptr(), spectrum.len(), bin, notch) };
@@ -55,6 +63,10 @@ pub fn carrier_notched_power(spectrum: &[f32], bin: usize, notch: usize) -> Resu
 }
 
 /// The carrier call: a peak where its value is at least the threshold times the floor.
+///
+/// # Errors
+/// Of a spectrum of N floats: [`Refusal::InputLength`] where N is odd, below 4 or above 4,096, [`Refusal::Threshold`] where the threshold
+/// is below 0 (-0.0 is taken), infinite or no number, [`Refusal::HalfWidth`] where `search` is above N/2 - 2 or the notch is not below N.
 pub fn check_carrier_metric(spectrum: &[f32], search: usize, notch: usize, threshold: f32) -> Result<Carrier, Refusal> {
     let mut answer = MaybeUninit::<raw::Carrier>::uninit();
     // SAFETY: the spectrum is good for its length, the answer for being written; every call writes all of it.
@@ -67,6 +79,9 @@ pub fn check_carrier_metric(spectrum: &[f32], search: usize, notch: usize, thres
 }
 
 /// Whether the third of five values is a local maximum: none before it is as great, none behind it is greater.
+///
+/// # Errors
+/// [`Refusal::InputLength`] where the values are not five.
 pub fn check_local_maximum(values: &[f32]) -> Result<bool, Refusal> {
     // SAFETY: the pointer is good for its length.
     let answer = unsafe { raw::khlongrae_check_local_maximum(values.as_ptr(), values.len()) };

@@ -1,34 +1,47 @@
 //! Safe calls of Khlongrae, a decoder for ADS-B windows whose every function is proved to answer its definition.
 //!
-//! The library checks every length and every setting itself, so these wrappers check nothing: they hand slices over, and turn a
+//! The library checks every length and every setting itself, so the calls here check nothing: they hand slices over, and turn a
 //! number into a [`Refusal`]. A refused call leaves lent memory as it was. Where several refusals apply, the lowest number from 2
 //! up is told. No call keeps state, takes memory from the heap, or panics (but for an archive of another interface, see
-//! [`version`]); a decode takes less than 64 kB of stack.
+//! [`version`]); a decode takes less than 64 kB of stack. [`raw`] has the library's functions as they are.
+//!
+//! The proof is of the library in the default float environment, which `khlongrae.h` describes. What is written in Rust here is not
+//! proved: the names and texts of an answer's fields, [`Answer::received`], and the reader of files.
 //!
 //! ```
 //! let silence = [0.0; khlongrae::WINDOW];
-//! let settings = khlongrae::Settings { level: 2, threshold: 67.0, second: 71.0, distance: 8 };
-//! assert_eq!(khlongrae::decode(&silence, settings, 128), Err(khlongrae::Refusal::NoMessage));
+//! assert_eq!(khlongrae::decode(&silence, khlongrae::Settings::default(), 128), Ok(None));
 //! ```
+//!
+//! The feature `std`, on by default, has `Windows`, the reader of files. Without it the crate needs `core` alone.
 #![no_std]
 #![warn(missing_docs)]
 
+#[cfg(feature = "std")]
+extern crate std;
+
 mod carrier;
+#[cfg(feature = "std")]
+mod file;
 mod message;
-mod raw;
+pub mod raw;
 mod refusal;
+mod repairs;
 mod window;
 
 pub use carrier::{Carrier, Strongest, carrier_notched_power, check_carrier_metric, check_local_maximum, long_fft_max_search};
-pub use message::{LINE, MESSAGE, Repairs, SHORT_LINE, avr, header, remainder};
+#[cfg(feature = "std")]
+pub use file::{FileError, MOST_WINDOWS, Malformed, Window, Windows};
+pub use message::{AvrLine, avr, header, remainder};
+pub use raw::{FLOATS, LINE, MESSAGE, SHORT_LINE, SHORT_MESSAGE, VERSION, WINDOW, WORDS};
 pub use refusal::Refusal;
-pub use window::{Answer, NUMBERS, Place, Settings, Slicer, WINDOW, WORDS, decode, decode_into};
-
-/// The number of the interface that this crate was written for.
-pub const VERSION: u32 = 1;
+pub use repairs::{Positions, Repairs};
+pub use window::{Address, Answer, Place, Settings, Slicer, decode, decode_into};
 
 /// The number of the library's interface. Compare it with [`VERSION`] before any other call: it grows where a signature or the
 /// meaning of a field changes.
+#[must_use]
 pub fn version() -> u32 {
+    // SAFETY: no memory is lent.
     unsafe { raw::khlongrae_version() }
 }

@@ -1,33 +1,33 @@
 //! Why a call was refused.
+use crate::raw;
 use core::fmt;
 
-/// Why a call was refused. The values are the library's numbers; its number 0 is `Ok`, and 10, a malformed file, is the window
-/// program's alone.
-#[derive(Clone, Copy, Debug, PartialEq, Eq)]
+/// Why a call was refused. The values are the library's numbers. Its 0 and 1 are answers and no refusals, and 10, a malformed file, is
+/// the window program's alone.
+#[derive(Clone, Copy, Debug, PartialEq, Eq, Hash)]
 #[repr(u32)]
 pub enum Refusal {
-    /// A decode: no place of the window holds a reading that the settings let pass.
-    NoMessage = 1,
     /// A lent input has the wrong length.
-    InputLength = 2,
+    InputLength = raw::INPUT_LENGTH,
     /// A lent output has the wrong length.
-    OutputLength = 3,
+    OutputLength = raw::OUTPUT_LENGTH,
     /// A level that is not 0, 1 or 2.
-    Level = 4,
+    Level = raw::LEVEL,
     /// A threshold that is infinite or no number; a carrier's also where it is below 0 (-0.0 is taken).
-    Threshold = 5,
+    Threshold = raw::THRESHOLD,
     /// A sample index below 128 or above 2^63.
-    Index = 6,
+    Index = raw::INDEX,
     /// A place out of its range: here, a bin that the spectrum has not.
-    Place = 7,
+    Place = raw::PLACE,
     /// A repaired position above 111.
-    Position = 8,
+    Position = raw::POSITION,
     /// A half-width that is too large for the spectrum.
-    HalfWidth = 9,
+    HalfWidth = raw::HALF_WIDTH,
 }
 
 impl Refusal {
     /// The library's number.
+    #[must_use]
     pub fn number(self) -> u32 {
         self as u32
     }
@@ -35,16 +35,15 @@ impl Refusal {
     /// It is proved that the library answers no other number, so another one comes from another archive.
     pub(crate) fn unless_done(number: u32) -> Result<(), Refusal> {
         Err(match number {
-            0 => return Ok(()),
-            1 => Refusal::NoMessage,
-            2 => Refusal::InputLength,
-            3 => Refusal::OutputLength,
-            4 => Refusal::Level,
-            5 => Refusal::Threshold,
-            6 => Refusal::Index,
-            7 => Refusal::Place,
-            8 => Refusal::Position,
-            9 => Refusal::HalfWidth,
+            raw::DONE => return Ok(()),
+            raw::INPUT_LENGTH => Refusal::InputLength,
+            raw::OUTPUT_LENGTH => Refusal::OutputLength,
+            raw::LEVEL => Refusal::Level,
+            raw::THRESHOLD => Refusal::Threshold,
+            raw::INDEX => Refusal::Index,
+            raw::PLACE => Refusal::Place,
+            raw::POSITION => Refusal::Position,
+            raw::HALF_WIDTH => Refusal::HalfWidth,
             _ => panic!("number {number}: this archive has another interface"),
         })
     }
@@ -53,7 +52,6 @@ impl Refusal {
 impl fmt::Display for Refusal {
     fn fmt(&self, f: &mut fmt::Formatter<'_>) -> fmt::Result {
         f.write_str(match self {
-            Refusal::NoMessage => "the window holds no message that the settings let pass",
             Refusal::InputLength => "an input has the wrong length",
             Refusal::OutputLength => "an output has the wrong length",
             Refusal::Level => "the level is not 0, 1 or 2",

@@ -1,12 +1,7 @@
 //! The decode of a window.
-use crate::{MESSAGE, Refusal, Repairs, raw};
-
-/// Numbers of a window: 1,155 samples, each a real part and an imaginary part.
-pub const WINDOW: usize = 2310;
-/// Whole numbers of a decode, in [`decode_into`].
-pub const WORDS: usize = 8;
-/// Floats of a decode, in [`decode_into`].
-pub const NUMBERS: usize = 2;
+use crate::raw::{FLOATS, MESSAGE, WORDS};
+use crate::{AvrLine, Refusal, Repairs, raw};
+use core::fmt;
 
 /// What a decode lets pass.
 #[derive(Clone, Copy, Debug, PartialEq)]
@@ -21,8 +16,15 @@ pub struct Settings {
     pub distance: u32,
 }
 
+/// Those with which the Rust original's receiver starts: two repairs, thresholds 67 and 71 dB Hz, a distance of 8 bits.
+impl Default for Settings {
+    fn default() -> Settings {
+        Settings { level: 2, threshold: 67.0, second: 71.0, distance: 8 }
+    }
+}
+
 /// Where a message was read. Its first sample in the window is 4 * (2 * bit + symbol) + phase.
-#[derive(Clone, Copy, Debug, PartialEq, Eq)]
+#[derive(Clone, Copy, Debug, PartialEq, Eq, Hash)]
 pub struct Place {
     /// Bit offset, 1 to 31.
     pub bit: u32,
@@ -32,8 +34,15 @@ pub struct Place {
     pub symbol: u32,
 }
 
+/// `bit,phase,symbol`, as `tools/make-window --place` takes it.
+impl fmt::Display for Place {
+    fn fmt(&self, f: &mut fmt::Formatter<'_>) -> fmt::Result {
+        write!(f, "{},{},{}", self.bit, self.phase, self.symbol)
+    }
+}
+
 /// Who read the bits.
-#[derive(Clone, Copy, Debug, PartialEq, Eq)]
+#[derive(Clone, Copy, Debug, PartialEq, Eq, Hash)]
 pub enum Slicer {
     /// By the real part.
     Coherent,
@@ -41,10 +50,43 @@ pub enum Slicer {
     Noncoherent,
 }
 
+/// As a listing has it: `C` or `N`.
+impl fmt::Display for Slicer {
+    fn fmt(&self, f: &mut fmt::Formatter<'_>) -> fmt::Result {
+        f.pad(match self {
+            Slicer::Coherent => "C",
+            Slicer::Noncoherent => "N",
+        })
+    }
+}
+
+/// The address field of a message: its bytes 1 to 3, the first one highest. Addresses are ordered as their numbers are.
+///
+/// In a message of format 17 it is an ICAO address. In one of format 18 it may be an address of another kind, or none: that stands
+/// elsewhere in the message, and this type does not say it.
+#[derive(Clone, Copy, Debug, PartialEq, Eq, PartialOrd, Ord, Hash)]
+pub struct Address(pub [u8; 3]);
+
+impl Address {
+    /// The address as a number of 24 bits.
+    #[must_use]
+    pub fn number(self) -> u32 {
+        let [high, middle, low] = self.0;
+        u32::from_be_bytes([0, high, middle, low])
+    }
+}
+
+/// As a listing has it: six capital hex digits.
+impl fmt::Display for Address {
+    fn fmt(&self, f: &mut fmt::Formatter<'_>) -> fmt::Result {
+        write!(f, "{:06X}", self.number())
+    }
+}
+
 /// What a decode found. Either float is no number where the samples are such that none can be told.
 #[derive(Clone, Copy, Debug, PartialEq)]
 pub struct Answer {
-    /// The message after its repairs. To see what was received, turn the repaired bits over again.
+    /// The message after its repairs; [`Answer::received`] has it as it was read.
     pub message: [u8; MESSAGE],
     /// Where it was read.
     pub place: Place,
@@ -60,42 +102,79 @@ pub struct Answer {
     pub cn0: f32,
 }
 
-/// Looks for a message of 14 bytes in a window of [`WINDOW`] numbers, derotated and phased. The index is the receiver's number of
-/// the window's sample 128.
-pub fn decode(samples: &[f32], settings: Settings, index: u64) -> Result<Answer, Refusal> {
-    let (mut message, mut words, mut numbers) = ([0; MESSAGE], [0; WORDS], [0.0; NUMBERS]);
-    decode_into(samples, settings, index, &mut message, &mut words, &mut numbers)?;
-    let [index, bit, phase, symbol, count, first, second, slicer] = words;
-    let [cn0, fraction] = numbers;
-    // All but the index are small: it is proved that the place is one of the 248 and that a position is below 112.
-    Ok(Answer {
-        message,
-        place: Place { bit: bit as u32, phase: phase as u32, symbol: symbol as u32 },
-        repairs: match count {
-            0 => Repairs::None,
-            1 => Repairs::One(first as u32),
-            _ => Repairs::Two(first as u32, second as u32),
-        },
-        slicer: if slicer == 0 { Slicer::Coherent } else { Slicer::Noncoherent },
-        index,
-        fraction,
-        cn0,
-    })
+impl Answer {
+    /// The bits as the slicer read them: the message with its repairs undone. No decode answers a position above 111; one that a
+    /// caller put there is passed over.
+    #[must_use]
+    pub fn received(&self) -> [u8; MESSAGE] {
+        let mut bytes = self.message;
+        for position in self.repairs {
+            if let Some(byte) = bytes.get_mut(position as usize / 8) {
+                *byte ^= 0x80 >> (position % 8);
+            }
+        }
+        bytes
+    }
+
+    /// The message's address field.
+    #[must_use]
+    pub fn address(&self) -> Address {
+        Address([self.message[1], self.message[2], self.message[3]])
+    }
+
+    /// The message's AVR line, as display programs take it.
+    #[must_use]
+    pub fn avr(&self) -> AvrLine {
+        // It is proved that a message of 14 bytes is not refused.
+        AvrLine::of(&self.message).expect("this archive has another interface")
+    }
 }
 
-/// The same with the answer in lent memory: [`MESSAGE`] bytes, [`WORDS`] whole numbers (index, bit offset, clock phase, symbol
-/// offset, how many repairs, the two positions, the slicer with 0 for coherent) and [`NUMBERS`] floats (cn0, fraction). Only a call
-/// that is `Ok` has written to it.
+/// Looks for a message of 14 bytes in a window of [`WINDOW`](crate::WINDOW) numbers, derotated and phased. The index is the receiver's
+/// number of the window's sample 128. `Ok(None)` says that no place of the window holds a reading that the settings let pass: that is
+/// an answer, and no fault.
+///
+/// # Errors
+/// [`Refusal::InputLength`] where the window has another length, [`Refusal::Level`], [`Refusal::Threshold`] and [`Refusal::Index`] where
+/// one of these is out of its range.
+pub fn decode(samples: &[f32], settings: Settings, index: u64) -> Result<Option<Answer>, Refusal> {
+    let (mut message, mut words, mut floats) = ([0; MESSAGE], [0; WORDS], [0.0; FLOATS]);
+    if !decode_into(samples, settings, index, &mut message, &mut words, &mut floats)? {
+        return Ok(None);
+    }
+    // All but the index are small: it is proved that the place is one of the 248 and that a position is below 112.
+    let small = |word: usize| words[word] as u32;
+    Ok(Some(Answer {
+        message,
+        place: Place { bit: small(raw::WORD_BIT), phase: small(raw::WORD_PHASE), symbol: small(raw::WORD_SYMBOL) },
+        repairs: match words[raw::WORD_REPAIRS] {
+            0 => Repairs::None,
+            1 => Repairs::One(small(raw::WORD_FIRST)),
+            _ => Repairs::Two(small(raw::WORD_FIRST), small(raw::WORD_SECOND)),
+        },
+        slicer: if words[raw::WORD_SLICER] == raw::COHERENT { Slicer::Coherent } else { Slicer::Noncoherent },
+        index: words[raw::WORD_INDEX],
+        fraction: floats[raw::FLOAT_FRACTION],
+        cn0: floats[raw::FLOAT_CN0],
+    }))
+}
+
+/// The same with the answer in lent memory: [`MESSAGE`] bytes, [`WORDS`] whole numbers and [`FLOATS`] floats, which [`raw`] names by
+/// their places. `Ok(true)` says that a message was found and all three are written, `Ok(false)` that there was none. Then, and where
+/// the call is refused, the memory is as it was.
+///
+/// # Errors
+/// Those of [`decode`], and [`Refusal::OutputLength`] where lent memory has another length.
 pub fn decode_into(
     samples: &[f32],
     settings: Settings,
     index: u64,
     message: &mut [u8],
     words: &mut [u64],
-    numbers: &mut [f32],
-) -> Result<(), Refusal> {
+    floats: &mut [f32],
+) -> Result<bool, Refusal> {
     // SAFETY: each pointer is good for its length, and lent memory overlaps nothing.
-    Refusal::unless_done(unsafe {
+    let number = unsafe {
         raw::khlongrae_decode(
             samples.as_ptr(),
             samples.len(),
@@ -108,8 +187,13 @@ pub fn decode_into(
             message.len(),
             words.as_mut_ptr(),
             words.len(),
-            numbers.as_mut_ptr(),
-            numbers.len(),
+            floats.as_mut_ptr(),
+            floats.len(),
         )
-    })
+    };
+    if number == raw::NO_MESSAGE {
+        return Ok(false);
+    }
+    Refusal::unless_done(number)?;
+    Ok(true)
 }

@@ -3,6 +3,15 @@ use khlongrae::*;
 
 const WORKED: [u8; MESSAGE] = [0x88, 0x07, 0x76, 0xAC, 0, 0, 0, 0, 0, 0, 0, 0, 0, 0];
 const SETTINGS: Settings = Settings { level: 2, threshold: 67.0, second: 71.0, distance: 8 };
+const FOUND: Answer = Answer {
+    message: WORKED,
+    place: Place { bit: 15, phase: 3, symbol: 1 },
+    repairs: Repairs::None,
+    slicer: Slicer::Coherent,
+    index: 128,
+    fraction: -0.5,
+    cn0: f32::INFINITY,
+};
 
 /// A window with a pulse in the first half of each bit that is 1, in the second half of each that is 0, from a sample on.
 fn window(message: &[u8; MESSAGE], from: usize) -> [f32; WINDOW] {
@@ -22,22 +31,116 @@ fn the_interface_is_the_one_that_was_meant() {
 }
 
 #[test]
-fn the_worked_message_is_found() {
-    let found = decode(&window(&WORKED, 128), SETTINGS, 128).unwrap();
-    let place = Place { bit: 15, phase: 3, symbol: 1 };
-    let expected =
-        Answer { message: WORKED, place, repairs: Repairs::None, slicer: Slicer::Coherent, index: 128, fraction: -0.5, cn0: f32::INFINITY };
-    assert_eq!(found, expected);
+fn the_defaults_are_those_of_the_original() {
+    let Settings { level, threshold, second, distance } = Settings::default();
+    assert_eq!(level, 2, "ErrorCorrectionLevel::DoubleError");
+    assert_eq!(threshold, 67.0, "CN0_THRESHOLD");
+    assert_eq!(second, 71.0, "NONCOHERENT_HIGH_HAMMING_CN0_THRESHOLD");
+    assert_eq!(distance, 8, "NONCOHERENT_HIGH_HAMMING_DISTANCE");
 }
 
 #[test]
-fn two_damaged_bits_are_repaired_and_named() {
-    let mut damaged = WORKED;
-    damaged[5] ^= 0xC0;
-    let samples = window(&damaged, 128);
-    let found = decode(&samples, SETTINGS, 128).unwrap();
-    assert_eq!((found.message, found.repairs, found.index), (WORKED, Repairs::Two(40, 41), 128));
-    assert_eq!(decode(&samples, Settings { level: 1, ..SETTINGS }, 128), Err(Refusal::NoMessage));
+fn the_worked_message_is_found() {
+    assert_eq!(decode(&window(&WORKED, 128), SETTINGS, 128), Ok(Some(FOUND)));
+}
+
+/// What is found where the worked message was sent with these bits turned over.
+fn found_after(damage: &[usize], settings: Settings) -> Option<Answer> {
+    let damaged = damaged(damage);
+    let found = decode(&window(&damaged, 128), settings, 128).unwrap();
+    if let Some(answer) = found {
+        assert_eq!(answer.message, WORKED);
+        assert_eq!(answer.received(), damaged);
+    }
+    found
+}
+
+fn damaged(damage: &[usize]) -> [u8; MESSAGE] {
+    let mut bytes = WORKED;
+    for j in damage {
+        bytes[j / 8] ^= 0x80 >> (j % 8);
+    }
+    bytes
+}
+
+#[test]
+fn damaged_bits_are_repaired_and_named() {
+    let repairs = |damage: &[usize]| found_after(damage, SETTINGS).unwrap().repairs;
+    assert_eq!(repairs(&[]), Repairs::None);
+    assert_eq!(repairs(&[0]), Repairs::One(0));
+    assert_eq!(repairs(&[40]), Repairs::One(40));
+    assert_eq!(repairs(&[111]), Repairs::One(111));
+    assert_eq!(repairs(&[40, 41]), Repairs::Two(40, 41));
+    assert_eq!(repairs(&[111, 7]), Repairs::Two(7, 111));
+}
+
+#[test]
+fn silence_is_an_answer() {
+    assert_eq!(found_after(&[40, 41], Settings { level: 1, ..SETTINGS }), None);
+    assert_eq!(found_after(&[40], Settings { level: 0, ..SETTINGS }), None);
+    assert_eq!(decode(&[0.0; WINDOW], SETTINGS, 128), Ok(None));
+    let mut lent = ([0xA5; MESSAGE], [0xA5A5; WORDS], [1.5; FLOATS]);
+    let kept = lent;
+    assert_eq!(decode_into(&[0.0; WINDOW], SETTINGS, 128, &mut lent.0, &mut lent.1, &mut lent.2), Ok(false));
+    assert_eq!(lent, kept);
+    assert_eq!(decode_into(&window(&WORKED, 128), SETTINGS, 128, &mut lent.0, &mut lent.1, &mut lent.2), Ok(true));
+    assert_eq!(lent, (WORKED, [128, 15, 3, 1, 0, 0, 0, 0], [f32::INFINITY, -0.5]));
+}
+
+#[test]
+fn what_was_received_has_the_repairs_undone() {
+    for (repairs, damage) in [(Repairs::None, &[][..]), (Repairs::One(9), &[9]), (Repairs::Two(0, 111), &[0, 111])] {
+        assert_eq!(Answer { repairs, ..FOUND }.received(), damaged(damage));
+    }
+    assert_eq!(Answer { repairs: Repairs::Two(112, u32::MAX), ..FOUND }.received(), WORKED);
+}
+
+#[test]
+fn repairs_are_counted_printed_and_gone_through() {
+    for (repairs, text, positions) in
+        [(Repairs::None, "0", &[][..]), (Repairs::One(7), "1:7", &[7]), (Repairs::Two(40, 111), "2:40,111", &[40, 111])]
+    {
+        assert_eq!(repairs.to_string(), text);
+        assert_eq!(repairs.count(), positions.len());
+        assert_eq!(repairs.positions().len(), positions.len());
+        assert_eq!(repairs.into_iter().collect::<Vec<_>>(), positions);
+    }
+    let mut two = Repairs::Two(1, 2).positions();
+    assert_eq!((two.next(), two.len(), two.next(), two.len(), two.next()), (Some(1), 1, Some(2), 0, None));
+}
+
+#[test]
+fn an_answer_is_printed_as_a_listing_has_it() {
+    assert_eq!(FOUND.address(), Address([0x07, 0x76, 0xAC]));
+    assert_eq!(FOUND.address().number(), 0x07_76AC);
+    assert_eq!(FOUND.address().to_string(), "0776AC");
+    assert_eq!(Address([0, 0, 10]).to_string(), "00000A");
+    assert!(Address([0, 1, 0]) > Address([0, 0, 255]));
+    assert_eq!((Slicer::Coherent.to_string(), Slicer::Noncoherent.to_string()), ("C".into(), "N".into()));
+    assert_eq!(FOUND.place.to_string(), "15,3,1");
+    assert_eq!(FOUND.avr().as_str(), "*880776AC00000000000000000000;");
+}
+
+#[test]
+fn an_avr_line_is_a_str() {
+    let line = FOUND.avr();
+    assert_eq!(line, AvrLine::of(&WORKED).unwrap());
+    assert_ne!(line, AvrLine::of(&[0; MESSAGE]).unwrap());
+    assert!(line.starts_with("*88") && line.len() == LINE);
+    assert_eq!(line.as_ref(), "*880776AC00000000000000000000;");
+    assert_eq!(format!("{line} {line:.3} {line:?}"), format!("{0} *88 AvrLine({0:?})", "*880776AC00000000000000000000;"));
+    assert_eq!(AvrLine::of(&WORKED[..SHORT_MESSAGE]).unwrap().as_str(), "*880776AC000000;");
+    for wrong in [0, 6, 8, 13] {
+        assert_eq!(AvrLine::of(&WORKED[..wrong]), Err(Refusal::InputLength));
+    }
+    assert_eq!(AvrLine::of(&[0; 15]), Err(Refusal::InputLength));
+}
+
+#[test]
+fn refusals_have_the_numbers_of_the_library() {
+    use Refusal::*;
+    let all = [InputLength, OutputLength, Level, Threshold, Index, Place, Position, HalfWidth];
+    assert_eq!(all.map(Refusal::number), [2, 3, 4, 5, 6, 7, 8, 9]);
 }
 
 /// A decode into memory of these lengths is refused with this number, and the memory is as it was.
@@ -51,8 +154,7 @@ fn refused(refusal: Refusal, samples: &[f32], settings: Settings, index: u64, le
 #[test]
 fn refused_decodes_leave_lent_memory_as_it_was() {
     let samples = window(&WORKED, 128);
-    let lengths = [MESSAGE, WORDS, NUMBERS];
-    refused(Refusal::NoMessage, &[0.0; WINDOW], SETTINGS, 128, lengths);
+    let lengths = [MESSAGE, WORDS, FLOATS];
     refused(Refusal::InputLength, &samples[1..], SETTINGS, 128, lengths);
     refused(Refusal::InputLength, &[], SETTINGS, 128, lengths);
     for wrong in [[13, 8, 2], [15, 8, 2], [14, 7, 2], [14, 9, 2], [14, 8, 1], [14, 8, 3], [0, 0, 0]] {
@@ -83,7 +185,7 @@ fn a_line_is_written_or_left() {
     assert_eq!(line, [0xA5; LINE]);
     assert_eq!(avr(&WORKED, &mut line), Ok(()));
     assert_eq!(&line, b"*880776AC00000000000000000000;");
-    assert_eq!(avr(&WORKED[..7], &mut line[..SHORT_LINE]), Ok(()));
+    assert_eq!(avr(&WORKED[..SHORT_MESSAGE], &mut line[..SHORT_LINE]), Ok(()));
     assert_eq!(&line[..SHORT_LINE], b"*880776AC000000;");
 }
 

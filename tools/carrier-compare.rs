@@ -282,7 +282,7 @@ fn local_maximum(c: &mut Counts, r: &mut Random) {
 
 fn main() {
     let given: Option<Vec<u64>> = std::env::args().skip(1).map(|x| x.parse().ok()).collect();
-    let Some(&[seed, count @ 1..]) = given.as_deref() else {
+    let Some(&[seed, count @ (1..)]) = given.as_deref() else {
         eprintln!("carrier-compare: two words, SEED from 0 and SPECTRA from 1");
         std::process::exit(2)
     };

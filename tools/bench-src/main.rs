@@ -49,16 +49,11 @@ unsafe extern "C" {
 
 fn khlongrae(decode: Decode, windows: &[Vec<f32>], s: Settings) -> Decoder {
     let windows = windows.to_vec();
-    let (mut m, mut w, mut n) = ([0; 14], [0; 8], [0.0; 2]);
+    let (mut message, mut words, mut numbers) = ([0; 14], [0; 8], [0.0; 2]);
     Box::new(move |i| {
         let x = black_box(&windows[i]);
-        let (m, w, n) = (&mut m[..], &mut w[..], &mut n[..]);
-        let (message, words, numbers) = (m.as_mut_ptr(), w.as_mut_ptr(), n.as_mut_ptr());
-        unsafe {
-            decode(
-                x.as_ptr(), x.len(), s.level, s.threshold, s.second, s.distance, INDEX, message, m.len(), words, w.len(), numbers, n.len(),
-            ) == 0
-        }
+        let (m, w, n) = (message.as_mut_ptr(), words.as_mut_ptr(), numbers.as_mut_ptr());
+        unsafe { decode(x.as_ptr(), x.len(), s.level, s.threshold, s.second, s.distance, INDEX, m, 14, w, 8, n, 2) == 0 }
     })
 }
 

@@ -281,8 +281,11 @@ fn local_maximum(c: &mut Counts, r: &mut Random) {
 }
 
 fn main() {
-    let given: Vec<u64> = std::env::args().skip(1).map(|x| x.parse().expect("SEED SPECTRA")).collect();
-    let (seed, count) = (given[0], given[1]);
+    let given: Option<Vec<u64>> = std::env::args().skip(1).map(|x| x.parse().ok()).collect();
+    let Some(&[seed, count @ (1..)]) = given.as_deref() else {
+        eprintln!("carrier-compare: two words, SEED from 0 and SPECTRA from 1");
+        std::process::exit(2)
+    };
     same("N, M and W", (rust::N, rust::M, rust::W), (1792, 672, 90));
     let r = &mut Random(seed);
     let c = &mut Counts::of(&[

@@ -6,11 +6,27 @@ extern "C" {
 
 const LIMIT: f64 = 0.0002;
 
+/// How many positive finite f32 there are: with a step above it the patterns would run over.
+const ALL: u32 = 0x7f7f_ffff;
+
+fn step() -> u32 {
+    let words: Vec<String> = std::env::args().skip(1).collect();
+    match &words[..] {
+        [] => Some(1),
+        [word] => word.parse().ok().filter(|step| (1..=ALL).contains(step)),
+        _ => None,
+    }
+    .unwrap_or_else(|| {
+        eprintln!("log_gap: one word at most, a whole number from 1 to {ALL}");
+        std::process::exit(2)
+    })
+}
+
 fn main() {
-    let step: u32 = std::env::args().nth(1).map_or(1, |s| s.parse().unwrap());
+    let step = step();
     let (mut count, mut above, mut gap, mut at) = (0u64, 0u64, 0.0f64, 0u32);
     let mut bits = 1u32;
-    while bits < 0x7f80_0000 {
+    while bits <= ALL {
         let x = f32::from_bits(bits);
         let ours = unsafe { log_sweep_ten_log10(x) };
         let theirs = 10.0 * x.log10();

@@ -9,6 +9,7 @@ use counts::Counts;
 use recipe::Random;
 use rules::{Answer, Settings, Tables, bits};
 use std::fmt::Debug;
+use std::fs::File;
 use std::io::Write;
 use std::time::Instant;
 
@@ -255,24 +256,41 @@ struct Given {
     first: u64,
     variants: String,
     lookups: bool,
-    record: Option<String>,
+    record: Option<File>,
     show: bool,
+}
+
+/// A wrong call: one line, status 2.
+fn stop(why: String) -> ! {
+    eprintln!("compare: {why}");
+    std::process::exit(2)
 }
 
 fn given() -> Given {
     let mut g = Given { seed: 1, windows: 2000, first: 0, variants: "AB".into(), lookups: false, record: None, show: false };
     let mut words = std::env::args().skip(1);
     while let Some(word) = words.next() {
-        let mut value = || words.next().unwrap_or_else(|| panic!("{word} wants a value"));
+        let mut value = || words.next().unwrap_or_else(|| stop(format!("{word} wants a value")));
+        let mut number = |least: u64, most: u64| {
+            let text = value();
+            let n = text.parse().ok().filter(|n| (least..=most).contains(n));
+            n.unwrap_or_else(|| stop(format!("{word}: '{text}' is not a whole number from {least} to {most}")))
+        };
         match word.as_str() {
-            "--seed" => g.seed = value().parse().expect("a number"),
-            "--windows" => g.windows = value().parse().expect("a number"),
-            "--first" => g.first = value().parse().expect("a number"),
-            "--variant" => g.variants = value(),
+            "--seed" => g.seed = number(0, u64::MAX),
+            "--windows" => g.windows = number(1, u64::MAX / 2),
+            "--first" => g.first = number(0, u64::MAX / 2),
+            "--variant" => match value() {
+                v if ["A", "B", "AB"].contains(&v.as_str()) => g.variants = v,
+                v => stop(format!("--variant: '{v}' is not A, B or AB")),
+            },
             "--lookups" => g.lookups = true,
-            "--record" => g.record = Some(value()),
+            "--record" => {
+                let path = value();
+                g.record = Some(File::create(&path).unwrap_or_else(|why| stop(format!("--record: {path}: {why}"))));
+            }
             "--show" => g.show = true,
-            _ => panic!("{word} is not known"),
+            _ => stop(format!("{word} is not known")),
         }
     }
     g
@@ -404,8 +422,7 @@ fn main() {
         println!("{unclassified:>12}  A: differs for no known cause");
         println!("the largest gap of cn0 to A: {largest} dB");
     }
-    if let Some(path) = &g.record {
-        let mut file = std::fs::File::create(path).expect("the record's file");
+    if let Some(mut file) = g.record.as_ref() {
         file.write_all(&(recorded.len() as u32).to_le_bytes()).unwrap();
         recorded.iter().for_each(|x| file.write_all(x).unwrap());
         println!("compare: {} windows recorded", recorded.len());

@@ -3,9 +3,12 @@ import argparse
 import importlib.machinery
 import importlib.util
 import os
+import shutil
+import subprocess
 import sys
 
 HERE = os.path.dirname(os.path.realpath(__file__))
+ROOT = os.path.dirname(HERE)
 NAME = os.path.basename(sys.argv[0]).removesuffix(".py")
 
 
@@ -21,6 +24,21 @@ def stop(why):
     """the call cannot be met: one line, status 2"""
     say(why)
     sys.exit(2)
+
+
+def needs(*commands):
+    """that these commands are at hand"""
+    for name in commands:
+        if not shutil.which(name):
+            stop(f"no command '{name}' on the PATH")
+
+
+def run(*words, cwd=ROOT, **more):
+    """the output of a command that must succeed"""
+    done = subprocess.run(words, cwd=cwd, stdout=subprocess.PIPE, text=True, **more)
+    if done.returncode != 0:
+        sys.exit(f"{done.stdout}{NAME}: failed: {' '.join(words)}")
+    return done.stdout
 
 
 def whole(least, most=None):
@@ -43,6 +61,15 @@ class Words(argparse.ArgumentParser):
         super().__init__(prog=NAME, allow_abbrev=False)
         self.text = text
 
+    def one_of(self, *options, needed=False):
+        """options that exclude each other; the field `asked` is the one that is given, or None"""
+        group = self.add_mutually_exclusive_group(required=needed)
+        for option in options:
+            group.add_argument(option, dest="asked", action="store_const", const=option)
+
+    def add_source(self):
+        self.add_argument("--source", default=os.path.join(os.path.dirname(ROOT), "shared", "docs", "src"))
+
     def format_help(self):
         return self.text.lstrip("\n")
 
@@ -53,10 +80,15 @@ class Words(argparse.ArgumentParser):
 def one_of(text, *options, needed=True):
     """the one word of a call that has no others"""
     words = Words(text)
-    group = words.add_mutually_exclusive_group(required=needed)
-    for option in options:
-        group.add_argument(option, dest="asked", action="store_const", const=option)
+    words.one_of(*options, needed=needed)
     return words.parse_args().asked
+
+
+def source_of(given):
+    """the folder src of the Rust, which the call names or which lies beside this repository"""
+    if not os.path.isfile(os.path.join(given.source, "receiver.rs")):
+        stop(f"argument --source: no receiver.rs in {given.source}: name the Rust's folder src")
+    return os.path.abspath(given.source)
 
 
 def tool(name):

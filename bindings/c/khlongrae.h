@@ -75,7 +75,8 @@ enum khlongrae_slicer {
 /* The floats of a decode, by their place in `floats`. Either is no number where the samples are such that none can be told. */
 enum khlongrae_float {
     KHLONGRAE_FLOAT_CN0 = 0,     /* how far the signal stood above the noise, in dB Hz; infinite where there was no noise */
-    KHLONGRAE_FLOAT_FRACTION = 1 /* how far between two samples the message came, from -0.5 to below 0.5, to add to the index */
+    KHLONGRAE_FLOAT_FRACTION = 1 /* how far between two samples the message came, from -0.5 to below 0.5, to add to the index. A message
+                                    that starts exactly with sample N has the index N and the fraction -0.5: it takes 0.5 off */
 };
 
 /* The number of the library's interface: compare it with KHLONGRAE_VERSION before any other call. It grows where a signature or the

@@ -1,4 +1,4 @@
-//! The proved library, compiled for this machine.
+//! The proved library, compiled for any processor of this kind.
 use crate::rules::{Answer, Settings};
 
 #[repr(C)]

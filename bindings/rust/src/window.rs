@@ -96,7 +96,8 @@ pub struct Answer {
     pub slicer: Slicer,
     /// When the message came: the number of its first sample, at 8,000,000 samples a second.
     pub index: u64,
-    /// How far between two samples it came, from -0.5 to below 0.5, to add to the index.
+    /// How far between two samples it came, from -0.5 to below 0.5, to add to the index. A message that starts exactly with sample N
+    /// has the index N and the fraction -0.5: it takes 0.5 off.
     pub fraction: f32,
     /// How far the signal stood above the noise, in dB Hz; infinite where there was no noise.
     pub cn0: f32,

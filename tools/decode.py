@@ -112,7 +112,7 @@ def build(name):
     why = "is not built" if changed == program else f"is older than {os.path.relpath(changed, ROOT)}"
     if not shutil.which("rt"):
         stop(f"the program {why}, and the Rattle toolchain, which builds it, is missing: there is no command 'rt' on the PATH")
-    needed, proved = len(crates(name)), 0
+    needed, proved, rest = len(crates(name)), 0, []
     say(f"the program {why}: its {needed} crates are proved first, some minutes the first time")
     with subprocess.Popen(["rt", "check", name], cwd=ROOT, stdout=subprocess.PIPE, stderr=subprocess.STDOUT, text=True, errors="replace") as rt:
         for line in rt.stdout:
@@ -121,9 +121,11 @@ def build(name):
                 proved += 1
                 if not found[2].startswith("unchanged"):
                     say(f"crate {proved} of {needed} is proved: {found[1]} ({found[2]})")
-            elif line.startswith("rt: ") and not line.startswith("rt: ok"):
-                say(line[4:-1])
+            elif line.startswith("rt: "):
+                rest.append(line[4:-1])
     if rt.returncode != 0 or not os.path.exists(program):
+        for line in rest:
+            say(line)
         stop(f"the program is not built: 'rt check {name}' says why")
     os.utime(program)
 

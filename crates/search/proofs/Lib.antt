@@ -1,3 +1,4 @@
 pub mod Passing
 pub mod Scanning
 pub mod Choosing
+pub mod Staging

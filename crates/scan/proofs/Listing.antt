@@ -4,20 +4,21 @@
 --     mark-is                   where the mark of a place stands
 --     kept-more, kept-same      one more place; two tests that are the same
 --     exact-kept                the marked places are the exact ones
+--     any-more, none-kept       no place is marked
 --     copy-more, copy-length, copy-all     the loop that copies
 --     kept-length               how many there are
 --     listed-is, exact-done     the answer where nothing is refused
 -- Assumes nothing.
 use mathlib.Core.Path.{_≡_, refl, sym, ap, _∙_, subst}
 use mathlib.Core.Bool.{Bool, true, false, _&&_, _||_}
-use mathlib.Core.List.{List, _++_}
+use mathlib.Core.List.{List, [], _++_}
 use Prim.Native.Nat.{ℕ, zero, suc, _+_, _*_, _/_, _%_, _<_, _≤_}
 use native.Mathlib.Nat.{add-zero, le-refl}
 use native.Mathlib.Numerals.{add-one}
 use native.Mathlib.Decide.{ℕ-discrete}
 use native.Mathlib.Omega.{arith}
 use borrow.Author.Tests.{eq-eqb}
-use lib.Bits.{bitOr, bitAnd}
+use lib.Bits.{bitOr, bitAnd, or-add-and, and-le-l, and-le-r}
 use lib.Dec.{eqb, lit<}
 use lib.ListN.{length, getD, set, take, drop, length-append, length-drop, length-set, List·getD-eq-default}
 use lib.Seq.{take-suc, take-set-le, getD-set-same, drop-cons, set-at, append-snoc, length-take-le}
@@ -27,7 +28,7 @@ use Rattle.lists.proofs.Table.{length-tabulate, getD-tabulate}
 use Rattle.scan.specs.declared.list.Listed.{Listed}
 use Rattle.scan.specs.Sieve.{kept, laneOf, onto}
 use Rattle.scan.specs.Exact.{cleanAt, exact, listOf, exactInto}
-use Rattle.scan.specs.Inner.{Marks, marked, exactMark, exactMarks}
+use Rattle.scan.specs.Inner.{Marks, marked, anyOf, exactMark, exactMarks}
 use Rattle.scan.proofs.Starting.{lane-lt}
 
 -- ---- marks
@@ -111,6 +112,11 @@ unfolding kept
 kept-same f g zero each = refl
 kept-same f g (suc n) each = rw (each n (omega arith), kept-same f g n (λ k h. each k (omega arith)))
 
+kept-none : (f : ℕ → Bool) (n : ℕ) → ((k : ℕ) → k < n → f k ≡ false) → kept f n ≡ []
+unfolding kept
+kept-none f zero each = refl
+kept-none f (suc n) each = rw (each n (omega arith)) (kept-none f n (λ k h. each k (omega arith)))
+
 eq-bit : (t : Bool) → eqb (asBit t) 1 ≡ t
 eq-bit true = refl
 eq-bit false = refl
@@ -124,6 +130,28 @@ exact-kept coherent noncoherent crcs others {marks} e =
     (λ k h.
     rw e (ap (λ (x : ℕ). eqb x 1) (getD-tabulate 248 f (laneOf k) 0 (lane-lt 31 k h))
     ∙ eq-bit (cleanAt coherent crcs (laneOf k) || cleanAt noncoherent others (laneOf k))))
+
+-- ---- where no place is marked
+
+pub any-more : (marks : List ℕ) (n : ℕ) {r : ℕ} → r ≡ anyOf marks n → bitOr r (getD marks n 0) ≡ anyOf marks (n + 1)
+unfolding anyOf
+any-more marks n e = rw (add-one n, e)
+
+any-none : (marks : List ℕ) (n : ℕ) → anyOf marks n ≡ 0 → (k : ℕ) → k < n → getD marks k 0 ≡ 0
+unfolding anyOf
+any-none marks zero e k h = omega arith
+any-none marks (suc n) e k h =
+    let a = anyOf marks n in
+    let b = getD marks n 0 in
+    elim (ℕ-discrete k n) [
+      | yes last ↦ ap (λ (i : ℕ). getD marks i 0) last ∙ (omega (arith, or-add-and a b, and-le-l a b, e))
+      | no before ↦ any-none marks n (omega (arith, or-add-and a b, and-le-r a b, e)) k (omega arith)
+    ]
+
+pub none-kept : (marks : List ℕ) {r : ℕ} → r ≡ anyOf marks 248 → r ≡ 0 → kept (marked marks) 248 ≡ []
+unfolding marked
+none-kept marks e z =
+    kept-none (λ (k : ℕ). eqb (getD marks (laneOf k) 0) 1) 248 (λ k h. rw (any-none marks 248 (sym e ∙ z) (laneOf k) (lane-lt 31 k h)))
 
 -- ---- the list
 

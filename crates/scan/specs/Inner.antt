@@ -3,8 +3,8 @@
 use mathlib.Core.Path.{_≡_}
 use mathlib.Core.Bool.{Bool, _||_, cond}
 use mathlib.Core.List.{List}
-use Prim.Native.Nat.{ℕ, _+_, _-_, _*_, _<_}
-use lib.Bits.{bitXor}
+use Prim.Native.Nat.{ℕ, zero, suc, _+_, _-_, _*_, _<_}
+use lib.Bits.{bitXor, bitOr}
 use lib.Dec.{ltb, eqb}
 use lib.ListN.{length, getD, replicate}
 use lib.Ieee.{Float, binary32, nan, lt, add}
@@ -68,6 +68,11 @@ pub record Marks (marks : List ℕ) : Type 0 where
 -- place k is marked
 unfoldable pub marked : List ℕ → ℕ → Bool
 marked marks k = eqb (getD marks (laneOf k) 0) 1
+
+-- the first n marks, joined: 0 where none is set
+unfoldable pub anyOf : List ℕ → ℕ → ℕ
+anyOf marks zero = 0
+anyOf marks (suc n) = bitOr (anyOf marks n) (getD marks n 0)
 
 -- the marks of the exact places
 unfoldable pub exactMark : List ℕ → List ℕ → List ℕ → List ℕ → ℕ → ℕ

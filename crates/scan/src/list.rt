@@ -1,4 +1,5 @@
 // The list of the places that are let through where nothing is repaired.
+use crate::marks::any;
 use crate::marks::copy;
 use crate::marks::gather;
 use crate::marks::mark_exact;
@@ -26,6 +27,9 @@ fn gather_exact(
 {
     let mut marks = [0u8; 248];
     mark_exact(coherent, noncoherent, crcs, others, &mut marks);
+    if any(&marks) == 0 {
+        return 0;
+    }
     gather(&marks, places)
 }
 

@@ -6,7 +6,7 @@ ghost use lib.Dec.{eqb};
 ghost use lib.ListN.{length, take};
 ghost use Rattle.lists.specs.Bits.{asBit};
 ghost use Rattle.scan.specs.Sieve.{kept, onto};
-ghost use Rattle.scan.specs.Inner.{Marks, marked, exactMarks};
+ghost use Rattle.scan.specs.Inner.{Marks, marked, anyOf, exactMarks};
 
 fn zero(crc: u32) -> u8
     ensures { λ r. ⌜ r ≡ asBit (eqb crc 0) ⌝ }
@@ -41,6 +41,18 @@ pub fn mark_exact(
     for i in 0..248 {
         marks[i] = clean(crcs[i], coherent[i + 8]) | clean(others[i], noncoherent[i + 8]);
     }
+}
+
+// All marks joined: 0 where no place is marked, as in nearly every window without a message.
+pub fn any(marks: &[u8]) -> u8
+    requires { ⌜ length (now marks) ≡ 248 ⌝ }
+    ensures { λ r. ⌜ r ≡ anyOf (now (marks .entry)) 248 ⌝ }
+{
+    let mut r: u8 = 0;
+    for i in 0..248 {
+        r = r | marks[i];
+    }
+    r
 }
 
 // The numbers of the marked places, in their order: as many as the answer says. Without branches: each number is stored, and stays

@@ -1,0 +1,7 @@
+pub mod Comparing
+pub mod Rolled
+pub mod Adding
+pub mod Starting
+pub mod Packing
+pub mod Listing
+pub mod Exacting

@@ -1,0 +1,182 @@
+-- The list of the places that are let through.
+--     clean-bit, exact-bit      the marks, as the code computes them
+--     marks-of                  a mark is 0 or 1, and there are 248
+--     mark-is                   where the mark of a place stands
+--     kept-more, kept-same      one more place; two tests that are the same
+--     exact-kept                the marked places are the exact ones
+--     any-more, none-kept       no place is marked
+--     copy-more, copy-length, copy-all     the loop that copies
+--     kept-length               how many there are
+--     listed-is, exact-done     the answer where nothing is refused
+-- Assumes nothing.
+use mathlib.Core.Path.{_≡_, refl, sym, ap, _∙_, subst}
+use mathlib.Core.Bool.{Bool, true, false, _&&_, _||_}
+use mathlib.Core.List.{List, [], _++_}
+use Prim.Native.Nat.{ℕ, zero, suc, _+_, _*_, _/_, _%_, _<_, _≤_}
+use native.Mathlib.Nat.{add-zero, le-refl}
+use native.Mathlib.Numerals.{add-one}
+use native.Mathlib.Decide.{ℕ-discrete}
+use native.Mathlib.Omega.{arith}
+use borrow.Author.Tests.{eq-eqb}
+use lib.Bits.{bitOr, bitAnd, or-add-and, and-le-l, and-le-r}
+use lib.Dec.{eqb, lit<}
+use lib.ListN.{length, getD, set, take, drop, length-append, length-drop, length-set, List·getD-eq-default}
+use lib.Seq.{take-suc, take-set-le, getD-set-same, drop-cons, set-at, append-snoc, length-take-le}
+use Rattle.lists.specs.From.{tabulate}
+use Rattle.lists.specs.Bits.{asBit}
+use Rattle.lists.proofs.Table.{length-tabulate, getD-tabulate}
+use Rattle.scan.specs.declared.list.Listed.{Listed}
+use Rattle.scan.specs.Sieve.{kept, laneOf, onto}
+use Rattle.scan.specs.Exact.{cleanAt, exact, listOf, exactInto}
+use Rattle.scan.specs.Inner.{Marks, marked, anyOf, exactMark, exactMarks}
+use Rattle.scan.proofs.Starting.{lane-lt}
+
+-- ---- marks
+
+or-bits : (a b : Bool) → bitOr (asBit a) (asBit b) ≡ asBit (a || b)
+or-bits true true = refl
+or-bits true false = refl
+or-bits false true = refl
+or-bits false false = refl
+
+and-bits : (a b : Bool) → bitAnd (asBit a) (asBit b) ≡ asBit (a && b)
+and-bits true true = refl
+and-bits true false = refl
+and-bits false true = refl
+and-bits false false = refl
+
+pub clean-bit : (crc bit : ℕ) {x y : ℕ} → x ≡ asBit (eqb crc 0) → y ≡ asBit (eqb bit 1) → bitAnd x y ≡ asBit (eqb crc 0 && eqb bit 1)
+clean-bit crc bit e g = rw (e, g) (and-bits (eqb crc 0) (eqb bit 1))
+
+pub exact-bit : (coherent noncoherent crcs others : List ℕ) (i : ℕ) {x y : ℕ}
+    → x ≡ asBit (eqb (getD crcs i 0) 0 && eqb (getD coherent (i + 8) 0) 1)
+    → y ≡ asBit (eqb (getD others i 0) 0 && eqb (getD noncoherent (i + 8) 0) 1)
+    → bitOr x y ≡ exactMark coherent noncoherent crcs others i
+unfolding exactMark cleanAt
+exact-bit coherent noncoherent crcs others i e g =
+    let s : i + 8 ≡ 8 + i = omega arith in
+    rw (e, g, s) (or-bits (eqb (getD crcs i 0) 0 && eqb (getD coherent (8 + i) 0) 1) (eqb (getD others i 0) 0 && eqb (getD noncoherent (8 + i) 0) 1))
+
+asBit-lt : (t : Bool) → asBit t < 2
+asBit-lt true = lit< tt
+asBit-lt false = lit< tt
+
+pub marks-of : (coherent noncoherent crcs others : List ℕ) {marks : List ℕ} → marks ≡ exactMarks coherent noncoherent crcs others → Marks marks
+unfolding exactMarks exactMark
+marks-of coherent noncoherent crcs others e =
+    let f : ℕ → ℕ = λ (i : ℕ). asBit (cleanAt coherent crcs i || cleanAt noncoherent others i) in
+    subst Marks (sym e) (record {
+      size = length-tabulate 248 f;
+      each = λ i. elim (ℕ-discrete (i / 248) 0) [
+        | yes inside ↦ rw (getD-tabulate 248 f i 0 (omega arith)) (asBit-lt (cleanAt coherent crcs i || cleanAt noncoherent others i))
+        | no outside ↦ rw (List·getD-eq-default (tabulate 248 f) 0 {n = i} (rw (length-tabulate 248 f) (omega arith))) (lit< tt)
+      ];
+    })
+
+-- ---- places
+
+lane-is : (o k : ℕ) → k < 8 → 8 * o + 4 * (k % 2) + k / 2 ≡ laneOf (8 * o + k)
+lane-is o k h =
+    let a : (8 * o + k) / 8 ≡ o = omega arith in
+    let b : (8 * o + k) % 8 ≡ k = omega arith in
+    rw (a, b)
+
+eq-one : (b : ℕ) → b < 2 → b ≡ asBit (eqb b 1)
+eq-one zero h = refl
+eq-one (suc zero) h = refl
+eq-one (suc (suc b)) h = omega arith
+
+pub mark-is : (marks : List ℕ) → Marks marks → (o k : ℕ) → k < 8 → getD marks (8 * o + 4 * (k % 2) + k / 2) 0 ≡ asBit (marked marks (8 * o + k))
+unfolding marked
+mark-is marks w o k h =
+    ap (λ (i : ℕ). getD marks i 0) (lane-is o k h) ∙ eq-one (getD marks (laneOf (8 * o + k)) 0) (w .each (laneOf (8 * o + k)))
+
+-- one more place, stored where the next that counts stands
+module _ (f : ℕ → Bool) (xs : List ℕ) (count n : ℕ) where
+  go : (t : Bool) → f n ≡ t → count < length xs → take count xs ≡ kept f n → take (count + asBit t) (set xs count n) ≡ kept f (suc n)
+  unfolding kept
+  go true q h e =
+      let s : count + 1 ≡ suc count = add-one count in
+      rw (q, s)
+      (take-suc (set xs count n) count 0 (rw (length-set xs count n) h)
+      ∙ rw (take-set-le count xs count n (le-refl count), getD-set-same xs count n 0 h, e))
+  go false q h e =
+      let s : count + 0 ≡ count = add-zero count in
+      rw (q, s) (take-set-le count xs count n (le-refl count) ∙ e)
+
+  pub kept-more : {b : ℕ} → b ≡ asBit (f n) → count < length xs → take count xs ≡ kept f n → take (count + b) (set xs count n) ≡ kept f (n + 1)
+  kept-more g h e = rw (g, add-one n) (go (f n) refl h e)
+
+pub kept-same : (f g : ℕ → Bool) (n : ℕ) → ((k : ℕ) → k < n → f k ≡ g k) → kept f n ≡ kept g n
+unfolding kept
+kept-same f g zero each = refl
+kept-same f g (suc n) each = rw (each n (omega arith), kept-same f g n (λ k h. each k (omega arith)))
+
+kept-none : (f : ℕ → Bool) (n : ℕ) → ((k : ℕ) → k < n → f k ≡ false) → kept f n ≡ []
+unfolding kept
+kept-none f zero each = refl
+kept-none f (suc n) each = rw (each n (omega arith)) (kept-none f n (λ k h. each k (omega arith)))
+
+eq-bit : (t : Bool) → eqb (asBit t) 1 ≡ t
+eq-bit true = refl
+eq-bit false = refl
+
+pub exact-kept : (coherent noncoherent crcs others : List ℕ) {marks : List ℕ} → marks ≡ exactMarks coherent noncoherent crcs others
+    → kept (marked marks) 248 ≡ kept (exact coherent noncoherent crcs others) 248
+unfolding marked exact exactMarks exactMark
+exact-kept coherent noncoherent crcs others {marks} e =
+    let f : ℕ → ℕ = λ (i : ℕ). asBit (cleanAt coherent crcs i || cleanAt noncoherent others i) in
+    kept-same (λ (k : ℕ). eqb (getD marks (laneOf k) 0) 1) (λ (k : ℕ). cleanAt coherent crcs (laneOf k) || cleanAt noncoherent others (laneOf k)) 248
+    (λ k h.
+    rw e (ap (λ (x : ℕ). eqb x 1) (getD-tabulate 248 f (laneOf k) 0 (lane-lt 31 k h))
+    ∙ eq-bit (cleanAt coherent crcs (laneOf k) || cleanAt noncoherent others (laneOf k))))
+
+-- ---- where no place is marked
+
+pub any-more : (marks : List ℕ) (n : ℕ) {r : ℕ} → r ≡ anyOf marks n → bitOr r (getD marks n 0) ≡ anyOf marks (n + 1)
+unfolding anyOf
+any-more marks n e = rw (add-one n, e)
+
+any-none : (marks : List ℕ) (n : ℕ) → anyOf marks n ≡ 0 → (k : ℕ) → k < n → getD marks k 0 ≡ 0
+unfolding anyOf
+any-none marks zero e k h = omega arith
+any-none marks (suc n) e k h =
+    let a = anyOf marks n in
+    let b = getD marks n 0 in
+    elim (ℕ-discrete k n) [
+      | yes last ↦ ap (λ (i : ℕ). getD marks i 0) last ∙ (omega (arith, or-add-and a b, and-le-l a b, e))
+      | no before ↦ any-none marks n (omega (arith, or-add-and a b, and-le-r a b, e)) k (omega arith)
+    ]
+
+pub none-kept : (marks : List ℕ) {r : ℕ} → r ≡ anyOf marks 248 → r ≡ 0 → kept (marked marks) 248 ≡ []
+unfolding marked
+none-kept marks e z =
+    kept-none (λ (k : ℕ). eqb (getD marks (laneOf k) 0) 1) 248 (λ k h. rw (any-none marks 248 (sym e ∙ z) (laneOf k) (lane-lt 31 k h)))
+
+-- ---- the list
+
+module _ (xs list : List ℕ) where
+  pub copy-more : (i : ℕ) → i < length xs → i < length list → set (take i xs ++ drop i list) i (getD xs i 0) ≡ take (i + 1) xs ++ drop (i + 1) list
+  copy-more i h g =
+      rw (add-one i, drop-cons list i 0 g, take-suc xs i 0 h)
+      (set-at (take i xs) (getD list i 0) (drop (suc i) list) (getD xs i 0) i (length-take-le i xs (omega arith))
+      ∙ sym (append-snoc (take i xs) (getD xs i 0) (drop (suc i) list)))
+
+  pub copy-length : (i : ℕ) → i ≤ length xs → i ≤ length list → length (take i xs ++ drop i list) ≡ length list
+  copy-length i h g = rw (length-append, length-take-le i xs h, length-drop) (omega arith)
+
+  pub copy-all : (n : ℕ) → n ≤ length xs → take n xs ++ drop n list ≡ onto (take n xs) list
+  unfolding onto
+  copy-all n h = rw (length-take-le n xs h)
+
+pub kept-length : (xs ks : List ℕ) (n : ℕ) → n ≤ length xs → take n xs ≡ ks → n ≡ length ks
+kept-length xs ks n h e = sym (length-take-le n xs h) ∙ ap length e
+
+pub listed-is : (ks list : List ℕ) {n : ℕ} {t out : List ℕ} → n ≡ length ks → t ≡ ks → out ≡ onto t list
+    → _≡_ {A = Listed × List ℕ} (record { number = 0; count = n }, out) (listOf ks list)
+listed-is ks list e g h = rw (e, h, g)
+
+pub exact-done : (coherent noncoherent crcs others list : List ℕ) → length coherent ≡ 1152 → length noncoherent ≡ 1152 → length crcs ≡ 248 → length others ≡ 248
+    → length list ≡ 248 → exactInto coherent noncoherent crcs others list ≡ listOf (kept (exact coherent noncoherent crcs others) 248) list
+unfolding exactInto
+exact-done coherent noncoherent crcs others list a b c d e = simp (eq-eqb _ _ a, eq-eqb _ _ b, eq-eqb _ _ c, eq-eqb _ _ d, eq-eqb _ _ e)

@@ -1,0 +1,70 @@
+-- Laws of remainders that are rolled on by starting sample.
+--     step-is                    a step, as the code computes it
+--     crc-next                   a remainder from that eight samples before it
+--     crc-lt                     a remainder is below 2^24
+-- Assumes nothing.
+use mathlib.Core.Path.{_≡_, refl, sym, ap, _∙_, subst, fun-ext}
+use mathlib.Core.List.{List}
+use Prim.Native.Nat.{ℕ, zero, suc, _+_, _*_, _/_, _%_, _^_, _<_}
+use native.Mathlib.Nat.{add-zero}
+use native.Mathlib.Omega.{arith}
+use lib.ListN.{getD, replicate}
+use lib.Bits.{bitXor, xor-zero-r}
+use Rattle.lists.specs.Bits.{packed}
+use Rattle.annex10.specs.Remainder.{generator, less, bring, divide, remainder}
+use Rattle.annex10.proofs.Linear.{remainder-lt}
+use Rattle.annex10.proofs.Rolling.{rolled}
+use Rattle.scan.specs.Flat.{messageFrom, crcIn}
+use Rattle.scan.specs.Inner.{Digits, next}
+
+less-times : (q x : ℕ) → q < 2 → bitXor x (q * generator) ≡ less q x
+less-times zero x h = xor-zero-r x
+less-times (suc zero) x h = refl
+less-times (suc (suc q)) x h = omega arith
+
+twice-is : (crc : ℕ) → crc < 2 ^ 24 → bitXor (crc * 2 % 2 ^ 32) (crc / 2 ^ 23 * generator) ≡ bring crc 0
+twice-is crc h =
+    let a : crc * 2 % 2 ^ 32 ≡ crc * 2 = omega arith in
+    let b : crc * 2 + 0 ≡ crc * 2 = add-zero (crc * 2) in
+    let q : crc * 2 / 2 ^ 24 ≡ crc / 2 ^ 23 = omega arith in
+    ap (λ (x : ℕ). bitXor x (crc / 2 ^ 23 * generator)) a
+    ∙ less-times (crc / 2 ^ 23) (crc * 2) (omega arith)
+    ∙ sym (ap (λ (x : ℕ). less (x / 2 ^ 24) x) b ∙ ap (λ (x : ℕ). less x (crc * 2)) q)
+
+enters : (b : ℕ) → b < 2 → b * 0xfff409 ≡ divide b (replicate 24 0)
+enters zero h = refl
+enters (suc zero) h = refl
+enters (suc (suc b)) h = omega arith
+
+leaves : (b : ℕ) → b < 2 → b * 0x2d833c ≡ divide b (replicate 136 0)
+leaves zero h = refl
+leaves (suc zero) h = refl
+leaves (suc (suc b)) h = omega arith
+
+-- a step, as the code computes it
+pub step-is : (crc leaving entering : ℕ) → crc < 2 ^ 24 → leaving < 2 → entering < 2
+    → bitXor (bitXor (bitXor (crc * 2 % 2 ^ 32) (crc / 2 ^ 23 * generator)) (entering * 0xfff409)) (leaving * 0x2d833c) ≡ next 14 crc leaving entering
+unfolding next
+step-is crc leaving entering hc hl he = rw (twice-is crc hc, enters entering he, leaves leaving hl)
+
+pub crc-lt : (n : ℕ) (bits : List ℕ) (i : ℕ) {crc : ℕ} → crc ≡ crcIn n bits i → crc < 2 ^ 24
+unfolding crcIn
+crc-lt n bits i e = subst (λ (x : ℕ). x < 2 ^ 24) (sym e) (remainder-lt (messageFrom n bits (8 + i)))
+
+pub crc-next : (n : ℕ) (bits : List ℕ) → Digits bits → (i : ℕ) {crc r : ℕ} → crc ≡ crcIn n bits i
+    → r ≡ next n crc (getD bits (i + 8) 0) (getD bits (i + (8 + 64 * n)) 0) → r ≡ crcIn n bits (i + 8)
+unfolding crcIn messageFrom next
+crc-next n bits d i {crc} {r} e h =
+    let f : ℕ → ℕ = λ (k : ℕ). getD bits (8 + i + 8 * k) 0 in
+    let here : remainder (packed n (λ (j : ℕ). f (0 + j))) ≡ crc
+    = ap (λ (g : ℕ → ℕ). remainder (packed n g)) (fun-ext (λ (j : ℕ). let u : 8 + i + 8 * (0 + j) ≡ 8 + i + 8 * j = omega arith in ap (λ (m : ℕ). getD bits m 0) u)) ∙ sym e in
+    let there : remainder (packed n (λ (j : ℕ). f (suc 0 + j))) ≡ remainder (packed n (λ (j : ℕ). getD bits (8 + (i + 8) + 8 * j) 0))
+    = ap (λ (g : ℕ → ℕ). remainder (packed n g)) (fun-ext (λ (j : ℕ). let u : 8 + i + 8 * (suc 0 + j) ≡ 8 + (i + 8) + 8 * j = omega arith in ap (λ (m : ℕ). getD bits m 0) u)) in
+    let l : i + 8 ≡ 8 + i + 8 * 0 = omega arith in
+    let m : i + (8 + 64 * n) ≡ 8 + i + 8 * (0 + 8 * n) = omega arith in
+    h
+    ∙ ap (λ (k : ℕ). next n crc (getD bits k 0) (getD bits (i + (8 + 64 * n)) 0)) l
+    ∙ ap (λ (k : ℕ). next n crc (f 0) (getD bits k 0)) m
+    ∙ ap (λ (x : ℕ). next n x (f 0) (f (0 + 8 * n))) (sym here)
+    ∙ sym (rolled f (λ k. d .each (8 + i + 8 * k)) n 0)
+    ∙ there

@@ -1,0 +1,45 @@
+-- A window by starting sample: its bits, and the remainders of its messages. A message that starts with sample p has its bits at p,
+-- p + 8, p + 16, ..
+-- Assumes nothing.
+use mathlib.Core.Bool.{_&&_, cond}
+use mathlib.Core.List.{List}
+use Prim.Native.Nat.{ℕ, _+_, _*_}
+use lib.Dec.{ltb, eqb}
+use lib.ListN.{length, getD}
+use lib.Ieee.{Float}
+use Rattle.lists.specs.From.{tabulate}
+use Rattle.lists.specs.Bits.{asBit, packed}
+use Rattle.annex10.specs.Remainder.{remainder}
+use Rattle.place.specs.declared.Slicer.{Slicer}
+use Rattle.place.specs.declared.Slicer.the-variants.{Coherent, Noncoherent}
+use Rattle.kernels.specs.Symbols.{sumFrom}
+use Rattle.kernels.specs.Slices.{greaterBy}
+
+-- the bit that starts with sample p: the sum of four samples from p on against that from p + 4 on; 0 where there is no second
+unfoldable pub startBit : Slicer → List Float → ℕ → ℕ
+startBit slicer samples p =
+    cond (ltb (p + 4) 1152) (asBit (greaterBy slicer (sumFrom samples p 4) (sumFrom samples (p + 4) 4))) 0
+
+unfoldable pub bitsFrom : Slicer → List Float → List ℕ
+bitsFrom slicer samples = tabulate 1152 (startBit slicer samples)
+
+-- the n bytes that start with sample p
+unfoldable pub messageFrom : ℕ → List ℕ → ℕ → List ℕ
+messageFrom n bits p = packed n (λ (j : ℕ). getD bits (p + 8 * j) 0)
+
+-- the remainder of the message of n bytes that starts with sample 8 + i, and those of the first m
+unfoldable pub crcIn : ℕ → List ℕ → ℕ → ℕ
+crcIn n bits i = remainder (messageFrom n bits (8 + i))
+
+unfoldable pub crcsIn : ℕ → List ℕ → ℕ → List ℕ
+crcsIn n bits m = tabulate m (crcIn n bits)
+
+-- what `scan` answers, and what stands in the four memories then: 2,310 numbers, else 2; 1,152 bits and 248 remainders for each slicer,
+-- else 3
+unfoldable pub scanned : List Float → List ℕ → List ℕ → List ℕ → List ℕ → ℕ × List ℕ × List ℕ × List ℕ × List ℕ
+scanned samples coherent noncoherent crcs others =
+    cond (eqb (length samples) 2310)
+    (cond (eqb (length coherent) 1152 && eqb (length noncoherent) 1152 && eqb (length crcs) 248 && eqb (length others) 248)
+    (0, bitsFrom Coherent samples, bitsFrom Noncoherent samples, crcsIn 14 (bitsFrom Coherent samples) 248, crcsIn 14 (bitsFrom Noncoherent samples) 248)
+    (3, coherent, noncoherent, crcs, others))
+    (2, coherent, noncoherent, crcs, others)

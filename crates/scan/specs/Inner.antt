@@ -1,0 +1,82 @@
+-- What private functions compute: no public contract cites it.
+-- Assumes nothing.
+use mathlib.Core.Path.{_≡_}
+use mathlib.Core.Bool.{Bool, _||_, cond}
+use mathlib.Core.List.{List}
+use Prim.Native.Nat.{ℕ, zero, suc, _+_, _-_, _*_, _<_}
+use lib.Bits.{bitXor, bitOr}
+use lib.Dec.{ltb, eqb}
+use lib.ListN.{length, getD, replicate}
+use lib.Ieee.{Float, binary32, nan, lt, add}
+use Rattle.lists.specs.From.{tabulate}
+use Rattle.lists.specs.Bits.{asBit}
+use Rattle.floats.specs.Numbers.{zeroF}
+use Rattle.math.specs.Complex.{normOf}
+use Rattle.annex10.specs.Remainder.{bring, divide}
+use Rattle.kernels.specs.Symbols.{complexAt}
+use Rattle.scan.specs.Sieve.{laneOf}
+use Rattle.scan.specs.Exact.{cleanAt}
+
+-- ---- rows
+
+-- the sum of four numbers of one part, the first of them number i
+unfoldable pub fourFrom : List Float → ℕ → Float
+fourFrom samples i =
+    add binary32 (add binary32 (add binary32 (add binary32 zeroF (getD samples i nan)) (getD samples (i + 2) nan)) (getD samples (i + 4) nan)) (getD samples (i + 6) nan)
+
+-- such a sum for each number, re then im
+unfoldable pub sumsOf : List Float → List Float
+sumsOf samples = tabulate 2304 (fourFrom samples)
+
+-- the real parts and the norms of sums
+unfoldable pub realsOf : List Float → List Float
+realsOf sums = tabulate 1152 (λ (i : ℕ). getD sums (2 * i) nan)
+
+unfoldable pub normsOf : List Float → List Float
+normsOf sums = tabulate 1152 (λ (i : ℕ). normOf (complexAt sums i))
+
+-- bit p of a row: its number p is greater than that four later; 0 where there is none
+unfoldable pub bitIn : List Float → ℕ → ℕ
+bitIn row p = cond (ltb (p + 4) 1152) (asBit (lt (getD row (p + 4) nan) (getD row p nan))) 0
+
+unfoldable pub bitsOf : List Float → List ℕ
+bitsOf row = tabulate 1152 (bitIn row)
+
+-- bits of a window, one for each sample
+pub record Digits (bits : List ℕ) : Type 0 where
+  pub size : length bits ≡ 1152
+  pub each : (i : ℕ) → getD bits i 0 < 2
+
+-- ---- remainders
+
+-- the remainder of n bytes, one bit on
+unfoldable pub next : ℕ → ℕ → ℕ → ℕ → ℕ
+next n crc leaving entering = bitXor (bitXor (bring crc 0) (divide entering (replicate 24 0))) (divide leaving (replicate (8 * n + 24) 0))
+
+-- number j is x^(135 - j) modulo the generator
+pub record PowerTable (t : List ℕ) : Type 0 where
+  pub size : length t ≡ 112
+  pub each : (j : ℕ) → j < 112 → getD t j 0 ≡ divide 1 (replicate (135 - j) 0)
+
+-- ---- lists
+
+-- marks, one for each starting sample: 1 where the place that starts there is let through
+pub record Marks (marks : List ℕ) : Type 0 where
+  pub size : length marks ≡ 248
+  pub each : (i : ℕ) → getD marks i 0 < 2
+
+-- place k is marked
+unfoldable pub marked : List ℕ → ℕ → Bool
+marked marks k = eqb (getD marks (laneOf k) 0) 1
+
+-- the first n marks, joined: 0 where none is set
+unfoldable pub anyOf : List ℕ → ℕ → ℕ
+anyOf marks zero = 0
+anyOf marks (suc n) = bitOr (anyOf marks n) (getD marks n 0)
+
+-- the marks of the exact places
+unfoldable pub exactMark : List ℕ → List ℕ → List ℕ → List ℕ → ℕ → ℕ
+exactMark coherent noncoherent crcs others i = asBit (cleanAt coherent crcs i || cleanAt noncoherent others i)
+
+unfoldable pub exactMarks : List ℕ → List ℕ → List ℕ → List ℕ → List ℕ
+exactMarks coherent noncoherent crcs others = tabulate 248 (exactMark coherent noncoherent crcs others)

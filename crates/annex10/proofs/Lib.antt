@@ -9,3 +9,4 @@ pub mod Unique
 pub mod Positions
 pub mod Rolling
 pub mod Any
+pub mod UpTo

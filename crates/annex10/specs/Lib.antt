@@ -4,3 +4,4 @@ pub mod Flip
 pub mod Header
 pub mod Repair
 pub mod Any
+pub mod Codes

@@ -18,7 +18,7 @@ use Rattle.annex10.specs.declared.Found.the-variants.{At}
 use Rattle.annex10.specs.Repair.{Proper, pattern}
 use Rattle.annex10.proofs.Repairing.{pattern-none}
 use Rattle.annex10.proofs.Singles.{singles, S, single-is, two-is}
-use Rattle.hash.specs.Codes.{codeOf}
+use Rattle.annex10.specs.Codes.{codeOf}
 use Rattle.hash.specs.Inner.{repairsOf, ownerAt, codeAt, slotOf, HashTable}
 use Rattle.hash.proofs.Placed.{placed, read, stands, read-is}
 

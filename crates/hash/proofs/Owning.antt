@@ -18,7 +18,7 @@ use Rattle.annex10.specs.Any.{clearingAny}
 use Rattle.annex10.proofs.Linear.{remainder-lt}
 use Rattle.annex10.proofs.Any.{any-is, any-none, any-found}
 use Rattle.annex10.proofs.Unique.{apart-14}
-use Rattle.hash.specs.Codes.{codeOf}
+use Rattle.annex10.specs.Codes.{codeOf}
 use Rattle.hash.specs.Inner.{repairsOf, foundOf, ownerAt, codeAt, slotOf, HashTable}
 
 -- no pattern has more than 24 bits

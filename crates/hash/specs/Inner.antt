@@ -14,7 +14,7 @@ use Rattle.annex10.specs.declared.Repairs.the-variants.{None, One, Two}
 use Rattle.annex10.specs.declared.Found.{Found}
 use Rattle.annex10.specs.declared.Found.the-variants.{At, Nothing}
 use Rattle.annex10.specs.Repair.{Proper, pattern}
-use Rattle.hash.specs.Codes.{absent, codeOf}
+use Rattle.annex10.specs.Codes.{absent, codeOf}
 
 -- what a code says: its positions, and what clears
 unfoldable pub repairsOf : ℕ → Repairs

@@ -2,7 +2,8 @@
 ghost use mathlib.Core.Path.{_≡_};
 ghost use lib.ListN.{length};
 ghost use Rattle.annex10.specs.Any.{clearingAny};
-ghost use Rattle.hash.specs.Codes.{codeOf, codesOf};
+ghost use Rattle.annex10.specs.Codes.{codeOf};
+ghost use Rattle.hash.specs.Codes.{codesOf};
 ghost use Rattle.hash.specs.Inner.{HashTable};
 
 // The code of one remainder.

@@ -23,7 +23,8 @@ use Rattle.place.proofs.Within.{listed-gives}
 use Rattle.streams.specs.Streams.{messageAt}
 use Rattle.rolling.specs.Rolling.{crcOf, crcsOf, crcsInto}
 use Rattle.streams.proofs.Parting.{message-stream}
-use Rattle.hash.specs.Codes.{codeOf, codesOf, codesInto}
+use Rattle.annex10.specs.Codes.{codeOf}
+use Rattle.hash.specs.Codes.{codesOf, codesInto}
 use Rattle.hash.specs.Inner.{foundOf}
 use Rattle.hash.proofs.Owning.{any-back}
 use Rattle.receiver.specs.Inner.{Known}

@@ -1,4 +1,6 @@
 // The positions of one or two wrong bits of a 14-byte message, from its remainder.
+mod codes;
+pub mod rows;
 mod search;
 mod tables;
 

@@ -6,7 +6,8 @@ use denote.Ref.{now}
 use Rattle.lists.specs.From.{tabulate}
 use Rattle.lists.proofs.Table.{Done, done-none, done-more, done-all}
 use Rattle.annex10.specs.Any.{clearingAny}
-use Rattle.hash.specs.Codes.{codeOf, codesOf}
+use Rattle.annex10.specs.Codes.{codeOf}
+use Rattle.hash.specs.Codes.{codesOf}
 use borrow.Author.Needs.{needs}
 use Rattle.hash.proofs.look.codes_in.Statement.{statement}
 use Rattle.hash.proofs.look.codes_in.Tie as tie

@@ -1,32 +1,38 @@
 -- What is read at a place is the window's, and the search is a scan of the places in their order.
 --     ready-sizes      the arrays' lengths
---     seen-there       the row and the streams of a place
+--     crc-at           the remainder of a place
+--     lent-read        the row and the streams of a place are those that the window has there
+--     lent-known       what clears the two messages, and whether their remainders differ
 --     best-is          all 248 places
 -- Assumes nothing.
-use mathlib.Core.Path.{_≡_, refl, sym, ap, _∙_}
-use mathlib.Core.Bool.{Bool, true, false, _||_, not, cond}
+use mathlib.Core.Path.{_≡_, refl, sym, ap, _∙_, subst}
+use mathlib.Core.Bool.{Bool, true, not, cond}
 use mathlib.Core.List.{List}
 use mathlib.Core.Option.{none, some}
-use Prim.Native.Nat.{ℕ, _+_, _*_, _/_, _%_, _<_, min}
+use Prim.Native.Nat.{ℕ, _+_, _-_, _*_, _<_, _≤_, min}
 use native.Mathlib.Omega.{arith}
-use lib.Arith.{mod-mul}
-use lib.Dec.{eqb, ltb, lit<}
+use borrow.Author.Tests.{eq-eqb}
+use lib.Dec.{eqb}
 use lib.ListN.{length, getD, take, drop, length-take, length-drop}
 use lib.Ieee.{Float}
 use Rattle.lists.specs.From.{tabulate}
+use Rattle.lists.proofs.Table.{length-tabulate, getD-tabulate}
+use Rattle.lists.specs.Bits.{packed}
 use Rattle.annex10.specs.Remainder.{remainder}
-use Rattle.annex10.specs.Any.{clearingAny}
 use Rattle.annex10.specs.declared.Found.{Found}
-use Rattle.annex10.specs.declared.Found.the-variants.{Nothing}
 use Rattle.place.specs.declared.Place.{Place}
 use Rattle.place.specs.declared.Slicer.{Slicer}
 use Rattle.place.specs.declared.Slicer.the-variants.{Coherent, Noncoherent}
 use Rattle.parts.specs.Part.{chosen}
+use Rattle.place.specs.Step.{sampleStart}
 use Rattle.place.specs.All.{listed, placeAt}
 use Rattle.place.proofs.Within.{listed-gives}
-use Rattle.place.proofs.All.{counted, listed-at}
+use Rattle.place.proofs.All.{counted}
 use Rattle.kernels.proofs.Summing.{symbols-length}
 use Rattle.streams.specs.Streams.{messageAt}
+use Rattle.scan.specs.Flat.{bitsFrom, crcIn, crcsIn, messageFrom, scanned}
+use Rattle.scan.specs.Lanes.{laneBytes}
+use Rattle.scan.proofs.Starting.{bits-start, stream-lane, digits-of}
 use Rattle.search.specs.declared.Settings.{Settings}
 use Rattle.search.specs.declared.Reading.{Reading}
 use Rattle.search.specs.declared.Tried.{Tried}
@@ -39,47 +45,57 @@ use Rattle.search.specs.Window.{Window}
 use Rattle.search.specs.Kinds.{long}
 use Rattle.search.specs.Seen.{row, stream, bitsAt, promptAt, noiseAt, windowOf}
 use Rattle.search.specs.Answers.{survivorOf}
-use Rattle.hash.specs.Inner.{foundOf}
-use Rattle.receiver.proofs.Turns.{none-read}
-use Rattle.receiver.specs.Inner.{rowsOf, Ready, Streams, Known, seenAt}
-use Rattle.receiver.proofs.Clearing.{numbered, both-length, codes-length, first-found, second-found, told-there, silent, both-silent}
-use Rattle.receiver.proofs.Storing.{rows-length, rows-part}
+use Rattle.receiver.specs.Inner.{Scanned, Ready, Finds, foundBy, Streams, Known, seenAt}
 
-pub record Sizes (symbols : List Float) (coherent noncoherent crcs codes : List ℕ) : Type 0 where
-  pub sums : length symbols ≡ 2304
-  pub first : length coherent ≡ 144
-  pub second : length noncoherent ≡ 144
-  pub remainders : length crcs ≡ 512
-  pub clear : length codes ≡ 512
+pub record Sizes (coherent noncoherent crcs others : List ℕ) : Type 0 where
+  pub first : length coherent ≡ 1152
+  pub second : length noncoherent ≡ 1152
+  pub first-crcs : length crcs ≡ 248
+  pub second-crcs : length others ≡ 248
 
-module _ (samples symbols : List Float) (coherent noncoherent crcs codes : List ℕ) (ready : Ready samples symbols coherent noncoherent crcs codes) where
-  pub ready-sizes : Sizes symbols coherent noncoherent crcs codes
-  ready-sizes =
-      record {
-        sums = ap length (ready .sums) ∙ symbols-length samples;
-        first = ap length (ready .first) ∙ rows-length Coherent symbols 4;
-        second = ap length (ready .second) ∙ rows-length Noncoherent symbols 4;
-        remainders = ap length (ready .remainders) ∙ both-length coherent noncoherent;
-        clear = ap length (ready .clear) ∙ codes-length crcs ∙ ap length (ready .remainders) ∙ both-length coherent noncoherent;
-      }
+crcs-length : (slicer : Slicer) (samples : List Float) → length (crcsIn 14 (bitsFrom slicer samples) 248) ≡ 248
+unfolding crcsIn
+crcs-length slicer samples = length-tabulate 248 (crcIn 14 (bitsFrom slicer samples))
 
-  -- the row and the two streams of a place
-  module _ (p : Place) (h : listed 31 p ≡ true) where
-    pub row-is : take 576 (drop (576 * p .phase) symbols) ≡ row samples (p .phase)
-    unfolding row
-    row-is = rw (ready .sums)
+pub scanned-sizes : (samples : List Float) (coherent noncoherent crcs others : List ℕ) → Scanned samples coherent noncoherent crcs others
+    → Sizes coherent noncoherent crcs others
+scanned-sizes samples coherent noncoherent crcs others w =
+    record {
+      first = ap length (w .first) ∙ digits-of Coherent samples .size;
+      second = ap length (w .second) ∙ digits-of Noncoherent samples .size;
+      first-crcs = ap length (w .first-crcs) ∙ crcs-length Coherent samples;
+      second-crcs = ap length (w .second-crcs) ∙ crcs-length Noncoherent samples;
+    }
 
-    stream-of : (slicer : Slicer) (xs : List ℕ) → xs ≡ rowsOf slicer symbols 4 → take 18 (drop (36 * p .phase + 18 * p .symbol) xs) ≡ stream samples slicer p
-    unfolding stream row
-    stream-of slicer xs e =
-        let l = listed-gives 31 p h in
-        ap (λ (x : List ℕ). take 18 (drop (36 * p .phase + 18 * p .symbol) x)) e ∙ rows-part slicer symbols (p .phase) (p .symbol) (l .phase) (l .symbol) ∙ rw (ready .sums)
+pub sums-length : (samples symbols : List Float) (coherent noncoherent crcs others : List ℕ) → Ready samples symbols coherent noncoherent crcs others → length symbols ≡ 2304
+sums-length samples symbols coherent noncoherent crcs others w = ap length (w .sums) ∙ symbols-length samples
 
-    pub first-is : take 18 (drop (36 * p .phase + 18 * p .symbol) coherent) ≡ stream samples Coherent p
-    first-is = stream-of Coherent coherent (ready .first)
+-- what a scan has written
+pub scan-done : (samples : List Float) (a b c d : List ℕ) {n : ℕ} {coherent noncoherent crcs others : List ℕ} → length samples ≡ 2310
+    → length a ≡ 1152 → length b ≡ 1152 → length c ≡ 248 → length d ≡ 248
+    → _≡_ {A = ℕ × List ℕ × List ℕ × List ℕ × List ℕ} (n, coherent, noncoherent, crcs, others) (scanned samples a b c d)
+    → Scanned samples coherent noncoherent crcs others
+unfolding scanned
+scan-done samples a b c d h ha hb hc hd e =
+    let q = simp (eq-eqb _ _ h, eq-eqb _ _ ha, eq-eqb _ _ hb, eq-eqb _ _ hc, eq-eqb _ _ hd) at e in
+    record {
+      whole = h;
+      first = ap (λ (x : ℕ × List ℕ × List ℕ × List ℕ × List ℕ). x .1) q;
+      second = ap (λ (x : ℕ × List ℕ × List ℕ × List ℕ × List ℕ). x .2) q;
+      first-crcs = ap (λ (x : ℕ × List ℕ × List ℕ × List ℕ × List ℕ). x .3) q;
+      second-crcs = ap (λ (x : ℕ × List ℕ × List ℕ × List ℕ × List ℕ). x .4) q;
+    }
 
-    pub second-is : take 18 (drop (36 * p .phase + 18 * p .symbol) noncoherent) ≡ stream samples Noncoherent p
-    second-is = stream-of Noncoherent noncoherent (ready .second)
+-- where a place starts
+pub record Start (p : Place) : Type 0 where
+  pub low : 8 ≤ sampleStart p
+  pub high : sampleStart p ≤ 255
+  pub lane : 8 * p .bit + (4 * p .symbol + p .phase) - 8 ≡ sampleStart p - 8
+
+pub starts : (p : Place) → listed 31 p ≡ true → Start p
+starts p h =
+    let l = listed-gives 31 p h in
+    record { low = omega (arith, l .from, l .to, l .phase, l .symbol); high = omega (arith, l .from, l .to, l .phase, l .symbol); lane = omega arith }
 
 -- ---- what is seen at the place is what the window has there
 
@@ -115,83 +131,67 @@ module _ (samples : List Float) (p : Place) where
   unfolding candidateAt
   seen-there s = same-survivor s _ ∙ ap (survivor s (windowOf 14 samples) p) (same-reading (min (s .level) (long .most)))
 
--- ---- the parts as the code lends them: i is 576 and j is 18
+-- ---- the remainder of a place
 
-module _ (samples symbols : List Float) (coherent noncoherent crcs codes : List ℕ) (ready : Ready samples symbols coherent noncoherent crcs codes)
-    (p : Place) (h : listed 31 p ≡ true) (i j : ℕ) (ei : i ≡ 576) (ej : j ≡ 18) where
-  abbrev at : ℕ
-  at = 36 * p .phase + 18 * p .symbol
+pub crc-at : (slicer : Slicer) (samples : List Float) (p : Place) → listed 31 p ≡ true
+    → getD (crcsIn 14 (bitsFrom slicer samples) 248) (sampleStart p - 8) 0 ≡ remainder (messageAt (stream samples slicer p) 14 (p .bit))
+unfolding crcsIn crcIn bitsAt
+crc-at slicer samples p h =
+    let l = listed-gives 31 p h in
+    let t = starts p h in
+    let e : 8 + (sampleStart p - 8) ≡ sampleStart p = omega (arith, t .low) in
+    let i : sampleStart p - 8 < 248 = omega (arith, t .low, t .high) in
+    getD-tabulate 248 (λ (j : ℕ). remainder (messageFrom 14 (bitsFrom slicer samples) (8 + j))) (sampleStart p - 8) 0 i
+    ∙ ap (λ (j : ℕ). remainder (messageFrom 14 (bitsFrom slicer samples) j)) e
+    ∙ ap remainder (sym (bits-start 14 slicer samples p (omega (arith, l .phase)) (omega (arith, l .symbol)) (omega (arith, l .to))))
 
-  pub lent-row : length (take i (drop (576 * p .phase) symbols)) ≡ 576
-  lent-row =
-      let z = ready-sizes samples symbols coherent noncoherent crcs codes ready in
+-- ---- what the code lends: i is 576
+
+module _ (samples symbols : List Float) (coherent noncoherent crcs others : List ℕ) (ready : Ready samples symbols coherent noncoherent crcs others)
+    (p : Place) (h : listed 31 p ≡ true) {first second : List ℕ}
+    (a : first ≡ laneBytes coherent (4 * p .symbol + p .phase)) (b : second ≡ laneBytes noncoherent (4 * p .symbol + p .phase)) where
+  first-is : first ≡ stream samples Coherent p
+  first-is =
       let l = listed-gives 31 p h in
-      simp (length-take, length-drop) (omega (arith, z .sums))
+      a ∙ ap (λ (x : List ℕ). laneBytes x (4 * p .symbol + p .phase)) (ready .scanned .first) ∙ stream-lane Coherent samples p (omega (arith, l .phase)) (omega (arith, l .symbol))
 
-  pub lent-streams : Streams (take j (drop at coherent)) (take j (drop at noncoherent)) (p .bit)
-  lent-streams =
-      let z = ready-sizes samples symbols coherent noncoherent crcs codes ready in
+  second-is : second ≡ stream samples Noncoherent p
+  second-is =
       let l = listed-gives 31 p h in
-      record {
-        first = simp (length-take, length-drop) (omega (arith, z .first));
-        second = simp (length-take, length-drop) (omega (arith, z .second));
-        low = omega arith;
-      }
+      b ∙ ap (λ (x : List ℕ). laneBytes x (4 * p .symbol + p .phase)) (ready .scanned .second) ∙ stream-lane Noncoherent samples p (omega (arith, l .phase)) (omega (arith, l .symbol))
 
-  pub lent-read : (s : Settings) {x : Survivor}
-      → x ≡ survivorOf (candidateAt long s (seenAt samples (take i (drop (576 * p .phase) symbols)) (take j (drop at coherent)) (take j (drop at noncoherent))) p)
+  pub lent-read : (s : Settings) (i : ℕ) {x : Survivor} → i ≡ 576
+      → x ≡ survivorOf (candidateAt long s (seenAt samples (take i (drop (576 * p .phase) symbols)) first second) p)
       → x ≡ survivorOf (candidateAt long s (windowOf 14 samples) p)
-  lent-read s e =
-      let r : take i (drop (576 * p .phase) symbols) ≡ row samples (p .phase)
-      = ap (λ (n : ℕ). take n (drop (576 * p .phase) symbols)) ei ∙ row-is samples symbols coherent noncoherent crcs codes ready p h in
-      let c : take j (drop at coherent) ≡ stream samples Coherent p
-      = ap (λ (n : ℕ). take n (drop at coherent)) ej ∙ first-is samples symbols coherent noncoherent crcs codes ready p h in
-      let n : take j (drop at noncoherent) ≡ stream samples Noncoherent p
-      = ap (λ (n : ℕ). take n (drop at noncoherent)) ej ∙ second-is samples symbols coherent noncoherent crcs codes ready p h in
-      e ∙ rw (r, c, n) (ap survivorOf (seen-there samples p s))
+  unfolding row
+  lent-read s i z e =
+      let r : take i (drop (576 * p .phase) symbols) ≡ row samples (p .phase) = rw (z, ready .sums) in
+      e ∙ rw (r, first-is, second-is) (ap survivorOf (seen-there samples p s))
 
-  -- what clears the two messages is told
-  pub lent-told : {c d : Found} {apart : Bool} → c ≡ foundOf (getD codes (numbered p) 0) → d ≡ foundOf (getD codes (256 + numbered p) 0)
-      → apart ≡ not (eqb (getD crcs (numbered p) 0) (getD crcs (256 + numbered p) 0))
-      → Known (take j (drop at coherent)) (take j (drop at noncoherent)) (p .bit) c d apart
-  lent-told =
-      told-there coherent noncoherent crcs codes (ready .remainders) (ready .clear) p h
-      (ready-sizes samples symbols coherent noncoherent crcs codes ready .remainders) ej
+  pub lent-streams : Streams first second (p .bit)
+  unfolding laneBytes packed
+  lent-streams =
+      let l = listed-gives 31 p h in
+      record { first = ap length a ∙ length-tabulate 18 _; second = ap length b ∙ length-tabulate 18 _; low = omega (arith, l .to) }
 
--- where neither code says anything, the place holds nothing
-module _ (samples symbols : List Float) (coherent noncoherent crcs codes : List ℕ) (ready : Ready samples symbols coherent noncoherent crcs codes)
-    (p : Place) (h : listed 31 p ≡ true) where
-  nothing-clears : (slicer : Slicer) (xs : List ℕ) → take 18 (drop (36 * p .phase + 18 * p .symbol) xs) ≡ stream samples slicer p
-      → {o : Found} → o ≡ clearingAny 14 (remainder (messageAt (take 18 (drop (36 * p .phase + 18 * p .symbol) xs)) 14 (p .bit))) → o ≡ Nothing
-      → clearingAny 14 (remainder (messageAt (stream samples slicer p) 14 (p .bit))) ≡ Nothing
-  nothing-clears slicer xs e q z = ap (λ (x : List ℕ). clearingAny 14 (remainder (messageAt x 14 (p .bit)))) (sym e) ∙ sym q ∙ z
-
-  pub none-there : (s : Settings) → foundOf (getD codes (numbered p) 0) ≡ Nothing → foundOf (getD codes (256 + numbered p) 0) ≡ Nothing
-      → candidateAt long s (windowOf 14 samples) p ≡ none
-  unfolding candidateAt survivor windowOf bitsAt
-  none-there s a b =
-      let z = ready-sizes samples symbols coherent noncoherent crcs codes ready .remainders in
-      ap (survivor s (windowOf 14 samples) p)
-      (none-read (min (s .level) (long .most)) (messageAt (stream samples Coherent p) 14 (p .bit)) (messageAt (stream samples Noncoherent p) 14 (p .bit))
-      (nothing-clears Coherent coherent (first-is samples symbols coherent noncoherent crcs codes ready p h)
-      (first-found coherent noncoherent crcs codes (ready .remainders) (ready .clear) p h z) a)
-      (nothing-clears Noncoherent noncoherent (second-is samples symbols coherent noncoherent crcs codes ready p h)
-      (second-found coherent noncoherent crcs codes (ready .remainders) (ready .clear) p h z) b))
-
--- the same in the order of the scan
-module _ (samples symbols : List Float) (coherent noncoherent crcs codes : List ℕ) (ready : Ready samples symbols coherent noncoherent crcs codes) where
-  pub skipped : (s : Settings) (k : ℕ) {b : Bool} → k < 248
-      → b ≡ (ltb (getD codes (8 + k) 0) 65536 || ltb (getD codes (256 + (8 + k)) 0) 65536) → b ≡ false
-      → candidateAt long s (windowOf 14 samples) (placeAt k) ≡ none
-  unfolding placeAt
-  skipped s k h e f =
-      let m : k % 8 ≡ k / 2 % 4 * 2 + k % 2 = mod-mul k (lit< tt) (lit< tt) in
-      let i : 8 + k ≡ numbered (placeAt k) = omega arith in
-      let j : 256 + (8 + k) ≡ 256 + numbered (placeAt k) = omega arith in
-      let (x, y) = both-silent _ _ (sym e ∙ f) in
-      none-there samples symbols coherent noncoherent crcs codes ready (placeAt k) (listed-at 31 k h) s
-      (ap (λ (n : ℕ). foundOf (getD codes n 0)) (sym i) ∙ silent _ x)
-      (ap (λ (n : ℕ). foundOf (getD codes n 0)) (sym j) ∙ silent _ y)
+  -- i is where the remainders stand; x and y are the codes of what clears them
+  pub lent-known : (level i x y : ℕ) {c d : Found} {apart : Bool} → i ≡ sampleStart p - 8
+      → Finds level (getD crcs (sampleStart p - 8) 0) (foundBy (getD crcs (sampleStart p - 8) 0) x)
+      → Finds level (getD others (sampleStart p - 8) 0) (foundBy (getD others (sampleStart p - 8) 0) y)
+      → c ≡ foundBy (getD crcs i 0) x → d ≡ foundBy (getD others i 0) y → apart ≡ not (eqb (getD crcs i 0) (getD others i 0))
+      → Known level first second (p .bit) c d apart
+  lent-known level i x y {c} {d} z f g cs ds e =
+      let u : getD crcs (sampleStart p - 8) 0 ≡ remainder (messageAt first 14 (p .bit))
+      = ap (λ (t : List ℕ). getD t (sampleStart p - 8) 0) (ready .scanned .first-crcs) ∙ crc-at Coherent samples p h ∙ rw (← first-is) in
+      let v : getD others (sampleStart p - 8) 0 ≡ remainder (messageAt second 14 (p .bit))
+      = ap (λ (t : List ℕ). getD t (sampleStart p - 8) 0) (ready .scanned .second-crcs) ∙ crc-at Noncoherent samples p h ∙ rw (← second-is) in
+      let m : c ≡ foundBy (getD crcs (sampleStart p - 8) 0) x = cs ∙ ap (λ (j : ℕ). foundBy (getD crcs j 0) x) z in
+      let n : d ≡ foundBy (getD others (sampleStart p - 8) 0) y = ds ∙ ap (λ (j : ℕ). foundBy (getD others j 0) y) z in
+      record {
+        first = subst (λ (r : ℕ). Finds level r c) u (subst (Finds level (getD crcs (sampleStart p - 8) 0)) (sym m) f);
+        second = subst (λ (r : ℕ). Finds level r d) v (subst (Finds level (getD others (sampleStart p - 8) 0)) (sym n) g);
+        differ = e ∙ ap (λ (j : ℕ). not (eqb (getD crcs j 0) (getD others j 0))) z ∙ rw (u, v);
+      }
 
 -- ---- the search
 

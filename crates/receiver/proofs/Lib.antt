@@ -1,11 +1,13 @@
-pub mod Storing
 pub mod Looking
 pub mod Prompting
 pub mod Trying
 pub mod Turns
 pub mod Answering
 pub mod Weighing
-pub mod Clearing
 pub mod Finding
 pub mod Deciding
 pub mod Told
+pub mod Kept
+pub mod Listed
+pub mod Stages
+pub mod Repaired

@@ -1,13 +1,14 @@
 -- Six trials one after the other are the reading.
 --     in-turn         a trial counts only where none before it passed: the last holds the first that passed
---     reading-by      with what clears the messages' own remainders the reading is that of the search
---     none-read       where nothing clears either, it fails
---     any-inside      what clears a remainder lies inside
+--     reading-by      with what clears the messages' own remainders, as far as the level asks, the reading is that of the search
+--     any-finds       what clears a remainder is that at every level
 -- Assumes nothing.
 use mathlib.Core.Path.{_≡_, refl, sym, ap, _∙_}
 use mathlib.Core.Bool.{Bool, true, false, _&&_, not}
 use mathlib.Core.List.{List, [], _∷_}
-use Prim.Native.Nat.{ℕ}
+use Prim.Native.Nat.{ℕ, _≤_}
+use native.Mathlib.Omega.{arith}
+use borrow.Author.Tests.{leb-true}
 use lib.Dec.{leb, eqb}
 use Rattle.annex10.specs.Remainder.{remainder}
 use Rattle.annex10.specs.Any.{clearingAny, only}
@@ -16,13 +17,14 @@ use Rattle.annex10.specs.declared.Found.the-variants.{At, Nothing}
 use Rattle.annex10.proofs.Any.{any-found, only-any}
 use Rattle.annex10.proofs.Positions.{proper-inside}
 use Rattle.annex10.proofs.Unique.{apart-14}
+use Rattle.place.specs.declared.Slicer.{Slicer}
 use Rattle.place.specs.declared.Slicer.the-variants.{Coherent, Noncoherent}
 use Rattle.search.specs.declared.Reading.{Reading}
 use Rattle.search.specs.declared.Tried.{Tried}
 use Rattle.search.specs.declared.Tried.the-variants.{Pass, Fail}
 use Rattle.search.specs.Kinds.{Kind, long}
 use Rattle.search.specs.Trials.{checked, cleared, given, sixTrials, differ, trials, first, reading}
-use Rattle.receiver.specs.Inner.{foundInside, orTry}
+use Rattle.receiver.specs.Inner.{foundInside, Finds, orTry}
 
 one-by-one : (x1 x2 x3 x4 x5 x6 : Tried) {t1 t2 t3 t4 t5 t6 : Tried}
     → t1 ≡ orTry Fail x1 → t2 ≡ orTry t1 x2 → t3 ≡ orTry t2 x3 → t4 ≡ orTry t3 x4 → t5 ≡ orTry t4 x5 → t6 ≡ orTry t5 x6
@@ -48,10 +50,16 @@ given-true : (t : Tried) → given true t ≡ t
 unfolding given
 given-true t = refl
 
-given-fail : (a : Bool) → given a Fail ≡ Fail
+unasked : (t u : Tried) → given false t ≡ given false u
 unfolding given
-given-fail true = refl
-given-fail false = refl
+unasked t u = refl
+
+swap : (a b : Bool) (t : Tried) → given a (given b t) ≡ given b (given a t)
+unfolding given
+swap true true t = refl
+swap true false t = refl
+swap false true t = refl
+swap false false t = refl
 
 given-both : (a b : Bool) (t : Tried) → given (a && b) t ≡ given a (given b t)
 unfolding given
@@ -78,27 +86,49 @@ module _ (kind : Kind) (level : ℕ) (coherent noncoherent : List ℕ) (c d : �
 
 -- with what clears the messages' own remainders the reading is that of the search
 module _ (level : ℕ) (coherent noncoherent : List ℕ) where
-  pub reading-by : {c d : Found} {apart : Bool} → c ≡ clearingAny 14 (remainder coherent) → d ≡ clearingAny 14 (remainder noncoherent)
+  -- a trial that the level asks for has what it looks for; another is not made
+  asked : (n number : ℕ) (slicer : Slicer) (bits : List ℕ) {c : Found} → Finds level (remainder bits) c
+      → given (leb n level) (checked long number slicer bits (only c n)) ≡ given (leb n level) (checked long number slicer bits (cleared long bits n))
+  unfolding cleared long
+  asked n number slicer bits {c} f = go (leb n level) refl
+    where
+      go : (b : Bool) → leb n level ≡ b → given b (checked long number slicer bits (only c n)) ≡ given b (checked long number slicer bits (cleared long bits n))
+      go true e = ap (λ (o : Found). given true (checked long number slicer bits o)) (f .each n (leb-true n level e))
+      go false e = unasked (checked long number slicer bits (only c n)) (checked long number slicer bits (cleared long bits n))
+
+  within : (b : Bool) (n number : ℕ) (slicer : Slicer) (bits : List ℕ) {c : Found} → Finds level (remainder bits) c
+      → given (leb n level) (given b (checked long number slicer bits (only c n))) ≡ given (leb n level) (given b (checked long number slicer bits (cleared long bits n)))
+  within b n number slicer bits {c} f =
+      swap (leb n level) b (checked long number slicer bits (only c n)) ∙ ap (given b) (asked n number slicer bits f)
+      ∙ swap b (leb n level) (checked long number slicer bits (cleared long bits n))
+
+  at-once : (number : ℕ) (slicer : Slicer) (bits : List ℕ) {c : Found} → Finds level (remainder bits) c
+      → checked long number slicer bits (only c 0) ≡ checked long number slicer bits (cleared long bits 0)
+  unfolding cleared long
+  at-once number slicer bits f = ap (checked long number slicer bits) (f .each 0 (omega arith))
+
+  pub reading-by : {c d : Found} {apart : Bool} → Finds level (remainder coherent) c → Finds level (remainder noncoherent) d
       → apart ≡ not (eqb (remainder coherent) (remainder noncoherent))
       → first (sixTrials long level coherent noncoherent (only c) (only d) apart) ≡ reading long level coherent noncoherent
-  unfolding reading trials sixTrials cleared differ long
-  reading-by p q s =
-      let x = only-any 14 (remainder coherent) apart-14 in
-      let y = only-any 14 (remainder noncoherent) apart-14 in
-      rw (p, q, s, x 0, x 1, x 2, y 0, y 1, y 2)
+  unfolding reading trials sixTrials differ
+  reading-by {c} {d} f g s =
+      rw (
+        s,
+        at-once 1 Coherent coherent f,
+        at-once 2 Noncoherent noncoherent g,
+        asked 1 3 Coherent coherent f,
+        within (not (eqb (remainder coherent) (remainder noncoherent))) 1 4 Noncoherent noncoherent g,
+        asked 2 5 Coherent coherent f,
+        within (not (eqb (remainder coherent) (remainder noncoherent))) 2 6 Noncoherent noncoherent g,
+      )
 
-  -- where nothing clears either, all fail
-  pub none-read : clearingAny 14 (remainder coherent) ≡ Nothing → clearingAny 14 (remainder noncoherent) ≡ Nothing
-      → reading long level coherent noncoherent ≡ Fail
-  unfolding sixTrials checked
-  none-read p q = sym (reading-by (sym p) (sym q) refl) ∙ go (leb 1 level) (leb 2 level) (not (eqb (remainder coherent) (remainder noncoherent)))
-    where
-      go : (a b e : Bool) → first (Fail ∷ Fail ∷ given a Fail ∷ given a (given e Fail) ∷ given b Fail ∷ given b (given e Fail) ∷ []) ≡ Fail
-      go a b e = rw (given-fail a, given-fail b, given-fail e, given-fail a, given-fail b)
-
-pub any-inside : (r : ℕ) → foundInside (clearingAny 14 r) ≡ true
+-- what clears a remainder is known at every level
+any-inside : (r : ℕ) → foundInside (clearingAny 14 r) ≡ true
 any-inside r = go (clearingAny 14 r) refl
   where
     go : (o : Found) → clearingAny 14 r ≡ o → foundInside o ≡ true
     go Nothing e = refl
     go (At ρ) e = proper-inside 14 ρ (any-found 14 r e .proper)
+
+pub any-finds : (level r : ℕ) {c : Found} → c ≡ clearingAny 14 r → Finds level r c
+any-finds level r e = record { each = λ n l. ap (λ (o : Found). only o n) e ∙ only-any 14 r apart-14 n; lies = ap foundInside e ∙ any-inside r }

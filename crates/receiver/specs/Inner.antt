@@ -1,15 +1,17 @@
 -- What private functions compute: no public contract cites it.
 -- Assumes nothing.
 use mathlib.Core.Path.{_≡_}
-use mathlib.Core.Bool.{Bool, true, not}
-use mathlib.Core.List.{List, [], _++_}
-use Prim.Native.Nat.{ℕ, zero, suc, _*_, _≤_}
+use mathlib.Core.Bool.{Bool, true, not, cond}
+use mathlib.Core.List.{List, [], foldl}
+use mathlib.Core.Option.{Option}
+use Prim.Native.Nat.{ℕ, _+_, _*_, _<_, _≤_}
 use lib.Dec.{eqb}
-use lib.ListN.{length, take, drop}
+use lib.ListN.{length, getD, take, drop}
 use lib.Ieee.{Float}
 use Rattle.annex10.specs.Remainder.{remainder}
-use Rattle.annex10.specs.Any.{clearingAny}
-use Rattle.annex10.specs.Repair.{inside}
+use Rattle.annex10.specs.Any.{only}
+use Rattle.annex10.specs.Repair.{inside, clearing}
+use Rattle.annex10.specs.declared.Repairs.the-variants.{None}
 use Rattle.annex10.specs.declared.Found.{Found}
 use Rattle.annex10.specs.declared.Found.the-variants.{At, Nothing}
 use Rattle.place.specs.declared.Place.{Place}
@@ -21,22 +23,19 @@ use Rattle.kernels.specs.Symbols.{symbolsOf}
 use Rattle.kernels.specs.Powers.{powerOf, noiseOf}
 use Rattle.streams.specs.Streams.{messageAt}
 use Rattle.streams.specs.Distances.{differing}
-use Rattle.rolling.specs.Rolling.{crcsOf}
-use Rattle.hash.specs.Codes.{codesOf}
+use Rattle.hash.specs.Inner.{foundOf}
+use Rattle.scan.specs.Flat.{bitsFrom, crcsIn}
+use Rattle.scan.specs.Sieve.{laneOf}
 use Rattle.cn0.specs.Estimate.{cn0Of}
 use Rattle.timing.specs.declared.Offset.{Offset}
 use Rattle.search.specs.declared.Tried.{Tried}
 use Rattle.search.specs.declared.Tried.the-variants.{Pass, Fail}
+use Rattle.search.specs.declared.Candidate.{Candidate}
 use Rattle.search.specs.declared.Prompt.{Prompt}
 use Rattle.search.specs.declared.Arrival.{Arrival}
 use Rattle.search.specs.Window.{Window}
+use Rattle.search.specs.Choice.{better}
 use Rattle.search.specs.When.{timingAt, indexOf}
-use Rattle.kernels.specs.Slices.{streamsOf}
-
--- both streams of a slicer for each of the first k rows of symbols
-unfoldable pub rowsOf : Slicer → List Float → ℕ → List ℕ
-rowsOf slicer symbols zero = []
-rowsOf slicer symbols (suc k) = rowsOf slicer symbols k ++ streamsOf slicer (take 576 (drop (576 * k) symbols))
 
 -- the power of a message at a place, from the symbols of all clock phases
 unfoldable pub powerIn : List Float → Place → List ℕ → Float
@@ -49,14 +48,22 @@ looked symbols p message offset = record { place = p; power = powerIn symbols p 
 unfoldable pub seenIn : List Float → Window
 seenIn symbols = record { bits = λ slicer p. []; distance = λ p. 0; prompt = powerIn symbols; cn0 = powerIn symbols }
 
--- what a search looks at, made from the samples
-pub record Ready (samples symbols : List Float) (coherent noncoherent crcs codes : List ℕ) : Type 0 where
+-- what the scan has made of the samples
+pub record Scanned (samples : List Float) (coherent noncoherent crcs others : List ℕ) : Type 0 where
   pub whole : length samples ≡ 2310
+  pub first : coherent ≡ bitsFrom Coherent samples
+  pub second : noncoherent ≡ bitsFrom Noncoherent samples
+  pub first-crcs : crcs ≡ crcsIn 14 (bitsFrom Coherent samples) 248
+  pub second-crcs : others ≡ crcsIn 14 (bitsFrom Noncoherent samples) 248
+
+-- all that a search looks at
+pub record Ready (samples symbols : List Float) (coherent noncoherent crcs others : List ℕ) : Type 0 where
+  pub scanned : Scanned samples coherent noncoherent crcs others
   pub sums : symbols ≡ symbolsOf samples
-  pub first : coherent ≡ rowsOf Coherent symbols 4
-  pub second : noncoherent ≡ rowsOf Noncoherent symbols 4
-  pub remainders : crcs ≡ crcsOf coherent ++ crcsOf noncoherent
-  pub clear : codes ≡ codesOf crcs
+
+-- the best of some places, given by their numbers, held on from h
+unfoldable pub over : (Place → Option Candidate) → (ℕ → Place) → Option Candidate → List ℕ → Option Candidate
+over f at h ks = foldl (λ held k. better held (f (at k))) h ks
 
 -- two streams, and a bit offset in them
 pub record Streams (coherent noncoherent : List ℕ) (bit : ℕ) : Type 0 where
@@ -64,10 +71,35 @@ pub record Streams (coherent noncoherent : List ℕ) (bit : ℕ) : Type 0 where
   pub second : length noncoherent ≡ 18
   pub low : bit ≤ 32
 
+-- positions that are found lie in a message of 14 bytes
+abbrev pub foundInside : Found → Bool
+foundInside Nothing = true
+foundInside (At ρ) = inside 14 ρ
+
+-- what clears a remainder, as far as a level asks for it
+pub record Finds (level r : ℕ) (c : Found) : Type 0 where
+  pub each : (n : ℕ) → n ≤ level → only c n ≡ clearing 14 n r
+  pub lies : foundInside c ≡ true
+
+-- what clears a remainder, from its code; 0 needs none
+unfoldable pub foundBy : ℕ → ℕ → Found
+foundBy r code = cond (eqb r 0) (At None) (foundOf code)
+
+-- a list of places, with the codes of what clears the two messages of each
+pub record Listing (level : ℕ) (crcs others list codes : List ℕ) (count : ℕ) : Type 0 where
+  pub few : count ≤ 248
+  pub places : length list ≡ 248
+  pub many : length codes ≡ 496
+  pub low : (q : ℕ) → q < count → getD list q 0 < 248
+  pub first : (q : ℕ) → q < count
+      → Finds level (getD crcs (laneOf (getD list q 0)) 0) (foundBy (getD crcs (laneOf (getD list q 0)) 0) (getD codes (2 * q) 0))
+  pub second : (q : ℕ) → q < count
+      → Finds level (getD others (laneOf (getD list q 0)) 0) (foundBy (getD others (laneOf (getD list q 0)) 0) (getD codes (2 * q + 1) 0))
+
 -- what clears the two messages there, and whether their remainders differ
-pub record Known (coherent noncoherent : List ℕ) (bit : ℕ) (c d : Found) (apart : Bool) : Type 0 where
-  pub first : c ≡ clearingAny 14 (remainder (messageAt coherent 14 bit))
-  pub second : d ≡ clearingAny 14 (remainder (messageAt noncoherent 14 bit))
+pub record Known (level : ℕ) (coherent noncoherent : List ℕ) (bit : ℕ) (c d : Found) (apart : Bool) : Type 0 where
+  pub first : Finds level (remainder (messageAt coherent 14 bit)) c
+  pub second : Finds level (remainder (messageAt noncoherent 14 bit)) d
   pub differ : apart ≡ not (eqb (remainder (messageAt coherent 14 bit)) (remainder (messageAt noncoherent 14 bit)))
 
 -- what is seen at a place, from the row and the streams in which it lies
@@ -85,11 +117,6 @@ unfoldable pub arrivalIn : List Float → Place → List ℕ → ℕ → Arrival
 arrivalIn symbols p message index =
     let t = timingAt (seenIn symbols) message (sampleStart p) in
     record { number = 0; index = indexOf index (sampleStart p) (t .moves); fraction = t .fraction }
-
--- positions that are found lie in a message of 14 bytes
-abbrev pub foundInside : Found → Bool
-foundInside Nothing = true
-foundInside (At ρ) = inside 14 ρ
 
 -- a trial counts only where none before it passed
 unfoldable pub orTry : Tried → Tried → Tried

@@ -142,7 +142,7 @@ pub fn read_streams<'a>(
     d: Found,
     apart: bool,
 ) -> Survivor
-    requires { ⌜ (length (now samples) ≡ 2310) × (length (now row) ≡ 576) × Streams (now coherent) (now noncoherent) (place .bit) × (within 14 place ≡ true) × (settingsNumber s ≡ 0) × Known (now coherent) (now noncoherent) (place .bit) c d apart ⌝ }
+    requires { ⌜ (length (now samples) ≡ 2310) × (length (now row) ≡ 576) × Streams (now coherent) (now noncoherent) (place .bit) × (within 14 place ≡ true) × (settingsNumber s ≡ 0) × Known (s .level) (now coherent) (now noncoherent) (place .bit) c d apart ⌝ }
     ensures { λ r. ⌜ r ≡ survivorOf (candidateAt long s (seenAt (now (samples .entry)) (now (row .entry)) (now (coherent .entry)) (now (noncoherent .entry))) place) ⌝ }
 {
     let bit = place.bit;

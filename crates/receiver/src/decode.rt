@@ -83,8 +83,7 @@ pub fn read_place(samples: &[f32], s: Settings, place: Place) -> Survivor
     if number != 0 {
         return unread(number);
     }
-    let symbols = symbols_of(samples);
-    reading_at(samples, &symbols, s, place)
+    reading_at(samples, s, place)
 }
 
 // The best reading of all 248 places. Refused: 2, 4, 5; number 1 where there is none.
@@ -95,8 +94,7 @@ pub fn find_best_decode_candidate(samples: &[f32], s: Settings) -> Survivor
     if number != 0 {
         return unread(number);
     }
-    let symbols = symbols_of(samples);
-    best_of(samples, &symbols, s)
+    best_of(samples, s)
 }
 
 // When a message at one of the 248 places came. Refused: 2, 6, 7.
@@ -124,11 +122,11 @@ pub fn decode(samples: &[f32], s: Settings, index: u64) -> Answer
     if number != 0 {
         return refused(number);
     }
-    let symbols = symbols_of(samples);
-    let read = best_of(samples, &symbols, s);
+    let read = best_of(samples, s);
     if read.number != 0 {
         return refused(1);
     }
+    let symbols = symbols_of(samples);
     let c = read.candidate;
     let place = c.place;
     let message = c.message;

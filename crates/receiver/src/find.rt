@@ -1,58 +1,73 @@
-// The search over the 248 places.
+// The search over the places that were let through.
 use crate::candidate::nothing;
 use crate::candidate::read_streams;
-use crate::codes::SECOND;
-use crate::codes::bit_errors_of;
-use crate::codes::says;
+use crate::codes::bit_errors_by;
 use choice::best::choose;
 use place::Place;
 use place::Stepped;
+use scan::stream::find_stream;
 use search::Settings;
 use search::Survivor;
 ghost use mathlib.Core.Path.{_≡_};
 ghost use mathlib.Core.Bool.{true};
-ghost use Prim.Native.Nat.{_<_};
+ghost use mathlib.Core.Option.{none};
+ghost use Prim.Native.Nat.{_-_, _<_, _≤_};
+ghost use lib.ListN.{length, getD, take};
+ghost use Rattle.place.specs.Step.{sampleStart};
 ghost use Rattle.place.specs.All.{listed, placeAt};
-ghost use Rattle.search.specs.Choice.{candidateAt, best};
+ghost use Rattle.scan.specs.Lanes.{laneBytes};
+ghost use Rattle.search.specs.Choice.{candidateAt};
 ghost use Rattle.search.specs.Kinds.{long};
 ghost use Rattle.search.specs.Seen.{windowOf};
 ghost use Rattle.search.specs.Answers.{settingsNumber, survivorOf};
-ghost use Rattle.receiver.specs.Inner.{Ready};
+ghost use Rattle.receiver.specs.Inner.{Ready, Finds, foundBy, Listing, over};
 
-// The surviving reading of a place: its row of symbols and its two streams are lent, and what clears its messages is told.
-pub fn read_at<'a>(
+// The stream of a lane.
+fn lane_of(bits: &[u8], lane: usize) -> [u8; 18]
+    requires { ⌜ (length (now bits) ≡ 1152) × (lane < 8) ⌝ }
+    ensures { λ r. ⌜ r ≡ laneBytes (now (bits .entry)) lane ⌝ }
+{
+    let mut out = [0u8; 18];
+    find_stream(bits, lane, &mut out);
+    out
+}
+
+// The surviving reading of a place. Its row of symbols is lent and its two streams are made here; c and d are the codes of what clears
+// its two messages.
+pub fn read_at(
     samples: &[f32],
     symbols: &[f32],
-    coherent: &'a [u8],
-    noncoherent: &'a [u8],
+    coherent: &[u8],
+    noncoherent: &[u8],
     crcs: &[u32],
-    codes: &[u32],
+    others: &[u32],
+    c: u32,
+    d: u32,
     s: Settings,
     place: Place,
 ) -> Survivor
-    requires { ⌜ Ready (now samples) (now symbols) (now coherent) (now noncoherent) (now crcs) (now codes) × (listed 31 place ≡ true) × (settingsNumber s ≡ 0) ⌝ }
+    requires { ⌜ Ready (now samples) (now symbols) (now coherent) (now noncoherent) (now crcs) (now others) × (listed 31 place ≡ true) × (settingsNumber s ≡ 0) × Finds (s .level) (getD (now crcs) (sampleStart place - 8) 0) (foundBy (getD (now crcs) (sampleStart place - 8) 0) c) × Finds (s .level) (getD (now others) (sampleStart place - 8) 0) (foundBy (getD (now others) (sampleStart place - 8) 0) d) ⌝ }
     ensures { λ r. ⌜ r ≡ survivorOf (candidateAt long s (windowOf 14 (now (samples .entry))) place) ⌝ }
 {
     let phase = place.phase;
-    let symbol = place.symbol;
+    let lane = 4 * place.symbol + phase;
+    let i = 8 * place.bit + lane - 8;
+    let crc = crcs[i];
+    let other = others[i];
+    let first = lane_of(coherent, lane);
+    let second = lane_of(noncoherent, lane);
     let from = 576 * phase;
     let to = from + 576;
-    let at = 36 * phase + 18 * symbol;
-    let end = at + 18;
-    let i = Place::PER_BIT * place.bit + Place::PER_PHASE * phase + symbol;
-    let c = bit_errors_of(codes[i]);
-    let d = bit_errors_of(codes[SECOND + i]);
-    let apart = crcs[i] != crcs[SECOND + i];
     read_streams(
         samples,
         &symbols[from..to],
-        &coherent[at..end],
-        &noncoherent[at..end],
+        &first,
+        &second,
         s,
         place,
-        c,
-        d,
-        apart,
+        bit_errors_by(crc, c),
+        bit_errors_by(other, d),
+        crc != other,
     )
 }
 
@@ -67,39 +82,39 @@ fn place_at(k: usize) -> Place
     }
 }
 
-// The best of all places. Most hold nothing: a look at their codes is enough.
-pub fn find<'a>(
+// The best of the places in a list.
+pub fn find(
     samples: &[f32],
     symbols: &[f32],
-    coherent: &'a [u8],
-    noncoherent: &'a [u8],
+    coherent: &[u8],
+    noncoherent: &[u8],
     crcs: &[u32],
+    others: &[u32],
+    list: &[u8],
     codes: &[u32],
+    count: usize,
     s: Settings,
 ) -> Survivor
-    requires { ⌜ Ready (now samples) (now symbols) (now coherent) (now noncoherent) (now crcs) (now codes) × (settingsNumber s ≡ 0) ⌝ }
-    ensures { λ r. ⌜ r ≡ survivorOf (best long s (windowOf 14 (now (samples .entry)))) ⌝ }
+    requires { ⌜ Ready (now samples) (now symbols) (now coherent) (now noncoherent) (now crcs) (now others) × Listing (s .level) (now crcs) (now others) (now list) (now codes) count × (settingsNumber s ≡ 0) ⌝ }
+    ensures { λ r. ⌜ r ≡ survivorOf (over (candidateAt long s (windowOf 14 (now (samples .entry)))) placeAt none (take count (now (list .entry)))) ⌝ }
 {
     let mut held = nothing();
-    let mut k: usize = 0;
-    while k < Place::COUNT {
-        // Bit offset 0 is not searched.
-        let i = Place::PER_BIT + k;
-        if says(codes[i], codes[SECOND + i]) {
-            let place = place_at(k);
-            let new = read_at(
-                samples,
-                symbols,
-                coherent,
-                noncoherent,
-                crcs,
-                codes,
-                s,
-                place,
-            );
-            held = choose(held, new);
-        }
-        k += 1;
+    let mut q: usize = 0;
+    while q < count {
+        let new = read_at(
+            samples,
+            symbols,
+            coherent,
+            noncoherent,
+            crcs,
+            others,
+            codes[2 * q],
+            codes[2 * q + 1],
+            s,
+            place_at(list[q] as usize),
+        );
+        held = choose(held, new);
+        q += 1;
     }
     held
 }

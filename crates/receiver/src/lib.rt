@@ -6,7 +6,6 @@ mod find;
 mod message;
 mod powers;
 mod refusals;
-mod rows;
 mod six;
 mod subsample;
 mod trial;

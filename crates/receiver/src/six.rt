@@ -29,7 +29,7 @@ pub fn try_six(
     d: Found,
     apart: bool,
 ) -> Tried
-    requires { ⌜ Streams (now coherent) (now noncoherent) bit × Known (now coherent) (now noncoherent) bit c d apart ⌝ }
+    requires { ⌜ Streams (now coherent) (now noncoherent) bit × Known level (now coherent) (now noncoherent) bit c d apart ⌝ }
     ensures { λ r. ⌜ r ≡ reading long level (messageAt (now (coherent .entry)) 14 bit) (messageAt (now (noncoherent .entry)) 14 bit) ⌝ }
 {
     let three = level >= 1;

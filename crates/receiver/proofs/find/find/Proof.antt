@@ -1,98 +1,139 @@
--- `receiver::find::find` meets its contract. The loop's invariant: what is held is the best of the first k places. A
--- place whose codes say nothing holds nothing.
+-- `receiver::find::find` meets its contract. The loop's invariant: what is held is the best of the first q places of the list.
 -- Assumes nothing.
-use borrow.Author.Needs.{needs}
 use mathlib.Core.Path.{_≡_, sym, ap, _∙_, subst}
-use native.Mathlib.Omega.{arith}
 use mathlib.Core.Bool.{true}
-use mathlib.Core.Logic.{⊎-elim}
 use mathlib.Core.Option.{none}
-use Prim.Native.Nat.{ℕ, _-_, _≤_, _<_}
-use Rattle.lists.specs.From.{tabulate}
+use Prim.Native.Nat.{ℕ, _+_, _-_, _*_, _≤_, _<_}
+use native.Mathlib.Omega.{arith}
+use lib.ListN.{getD, take}
 use Rattle.place.specs.declared.Place.{Place}
 use Rattle.place.specs.All.{listed, placeAt}
 use Rattle.place.proofs.All.{listed-at}
-use Rattle.search.specs.Choice.{candidateAt, scan}
+use Rattle.search.specs.Choice.{candidateAt}
 use Rattle.search.specs.Kinds.{long}
 use Rattle.search.specs.Seen.{windowOf}
 use Rattle.search.specs.Answers.{survivorOf}
-use Rattle.search.proofs.Scanning.{scan-start}
-use Rattle.choice.proofs.Choosing.{chosen-more, chosen-none}
-use Rattle.receiver.proofs.Finding.{ready-sizes, skipped, best-is}
+use Rattle.receiver.specs.Inner.{over}
+use borrow.Author.Needs.{needs}
+use Rattle.receiver.proofs.Listed.{found-none, found-more, listed-finds}
 use Rattle.receiver.proofs.find.find.Statement.{statement}
 use Rattle.receiver.proofs.find.find.Tie as tie
+use Rattle.receiver.proofs.find.find.Reads as reads
+use Rattle.receiver.proofs.find.find.Lts as lts
+use Rattle.choice.proofs.best.choose.Reads as choose-reads
+use Rattle.receiver.proofs.candidate.nothing.Reads as nothing-reads
+use Rattle.receiver.proofs.find.place_at.Reads as place-at-reads
+use Rattle.receiver.proofs.find.read_at.Reads as read-at-reads
 
 abbrev Inv-loop : tie.InvT-loop
-Inv-loop samples symbols coherent noncoherent crcs codes s held₀ k₀ held k = (k ≤ 248) × (held ≡ survivorOf (scan (candidateAt long s (windowOf 14 samples)) none (tabulate k placeAt)))
+Inv-loop samples symbols coherent noncoherent crcs others list codes count s held₀ q₀ held q = (q ≤ count) × (held ≡ survivorOf (over (candidateAt long s (windowOf 14 samples)) placeAt none (take q list)))
 
 abbrev μ-loop : tie.MeasureT-loop
-μ-loop samples symbols coherent noncoherent crcs codes s held₀ k₀ held k = 248 - k
+μ-loop samples symbols coherent noncoherent crcs others list codes count s held₀ q₀ held q = count - q
 
+-- src/find.rt:101:9
 nothing-requires : tie.Need-nothing-requires Inv-loop μ-loop
 nothing-requires c κs = search needs
 
+-- src/find.rt:103:5
 loop-holds : tie.Need-loop-holds Inv-loop μ-loop
 loop-holds c =
-    let s = c .before .before .before .before .before .before .before .args in
-    (omega arith, c .nothing .ensures ∙ ap survivorOf (scan-start (candidateAt long (s .s) (windowOf 14 (s .samples .now))) placeAt))
+    let s = c .before .before .before .before .before .before .before .before .before .args in
+    (omega arith, c .nothing .ensures ∙ ap survivorOf (found-none (candidateAt long (s .s) (windowOf 14 (s .samples .now))) (s .list .now)))
 
-add-i : tie.Need-add-i Inv-loop μ-loop
-add-i c = let z = ready-sizes _ _ _ _ _ _ (c .before .before .before .before .before .before .before .before .before .pre .0) in omega (arith, z .clear)
+-- src/find.rt:111:19
+mul-read-at : tie.Need-mul-read-at Inv-loop μ-loop
+mul-read-at c = let s = c .before .before .before .before .before .before .before .before .before .before .before in omega (arith, s .pre .1 .few, s .pre .1 .places, s .pre .1 .many)
 
-mul-says : tie.Need-mul-says Inv-loop μ-loop
-mul-says c = let z = ready-sizes _ _ _ _ _ _ (c .before .before .before .before .before .before .before .before .before .pre .0) in omega (arith, z .clear)
+-- src/find.rt:111:13
+mul-read-at-2 : tie.Need-mul-read-at-2 Inv-loop μ-loop
+mul-read-at-2 c = let s = c .before .before .before .before .before .before .before .before .before .before .before in omega (arith, s .pre .1 .few, s .pre .1 .places, s .pre .1 .many)
 
-shared-slice-read-says : tie.Need-shared-slice-read-says Inv-loop μ-loop
-shared-slice-read-says c = let z = ready-sizes _ _ _ _ _ _ (c .before .before .before .before .before .before .before .before .before .before .pre .0) in omega (arith, z .clear)
+-- src/find.rt:111:13
+shared-slice-read-read-at : tie.Need-shared-slice-read-read-at Inv-loop μ-loop
+shared-slice-read-read-at c = let s = c .before .before .before .before .before .before .before .before .before .before .before .before in omega (arith, s .pre .1 .few, s .pre .1 .places, s .pre .1 .many)
 
-add-says : tie.Need-add-says Inv-loop μ-loop
-add-says c = let z = ready-sizes _ _ _ _ _ _ (c .before .before .before .before .before .before .before .before .before .before .pre .0) in omega (arith, z .clear)
+-- src/find.rt:112:19
+mul-read-at-3 : tie.Need-mul-read-at-3 Inv-loop μ-loop
+mul-read-at-3 c = let s = c .before .before .before .before .before .before .before .before .before .before .before .before in omega (arith, s .pre .1 .few, s .pre .1 .places, s .pre .1 .many)
 
-mul-says-2 : tie.Need-mul-says-2 Inv-loop μ-loop
-mul-says-2 c = let z = ready-sizes _ _ _ _ _ _ (c .before .before .before .before .before .before .before .before .before .before .pre .0) in omega (arith, z .clear)
+-- src/find.rt:112:19
+add-read-at : tie.Need-add-read-at Inv-loop μ-loop
+add-read-at c = let s = c .before .before .before .before .before .before .before .before .before .before .before .before in omega (arith, s .pre .1 .few, s .pre .1 .places, s .pre .1 .many)
 
-shared-slice-read-says-2 : tie.Need-shared-slice-read-says-2 Inv-loop μ-loop
-shared-slice-read-says-2 c = let z = ready-sizes _ _ _ _ _ _ (c .before .before .before .before .before .before .before .before .before .before .before .pre .0) in omega (arith, z .clear)
+-- src/find.rt:112:13
+mul-read-at-4 : tie.Need-mul-read-at-4 Inv-loop μ-loop
+mul-read-at-4 c = let s = c .before .before .before .before .before .before .before .before .before .before .before .before in omega (arith, s .pre .1 .few, s .pre .1 .places, s .pre .1 .many)
 
-says-requires : tie.Need-says-requires Inv-loop μ-loop
-says-requires c κs = search needs
+-- src/find.rt:112:13
+shared-slice-read-read-at-2 : tie.Need-shared-slice-read-read-at-2 Inv-loop μ-loop
+shared-slice-read-read-at-2 c = let s = c .before .before .before .before .before .before .before .before .before .before .before .before .before in omega (arith, s .pre .1 .few, s .pre .1 .places, s .pre .1 .many)
 
+-- src/find.rt:114:22
+shared-slice-read-place-at : tie.Need-shared-slice-read-place-at Inv-loop μ-loop
+shared-slice-read-place-at c = let s = c .before .before .before .before .before .before .before .before .before .before .before .before .before .before in omega (arith, s .pre .1 .few, s .pre .1 .places, s .pre .1 .many)
+
+-- src/find.rt:114:22
+cast-place-at : tie.Need-cast-place-at Inv-loop μ-loop
+cast-place-at c =
+    let l = c .before .before .before .before .loop in
+    let s = c .before .before .before .before .before .before .before .before .before .before .before .before .before .before in
+    let h : l .q < s .args .count = omega (arith, c .before .before .before .loop-test .taken) in
+    omega (arith, s .pre .1 .low (l .q) h)
+
+-- src/find.rt:114:13
 place-at-requires : tie.Need-place-at-requires Inv-loop μ-loop
-place-at-requires c κs = search needs
+place-at-requires c κs =
+    let l = c .before .before .before .before .loop in
+    let s = c .before .before .before .before .before .before .before .before .before .before .before .before .before .before in
+    s .pre .1 .low (l .q) (omega (arith, c .before .before .before .loop-test .taken))
 
+-- src/find.rt:104:13
 read-at-requires : tie.Need-read-at-requires Inv-loop μ-loop
 read-at-requires c κs =
-    let s = c .before .before .before .before .before .before .before .before .before .before .before .before .before .before in
-    (s .pre .0, subst (λ (p : Place). listed 31 p ≡ true) (sym (c .place-at .ensures)) (listed-at 31 (c .before .before .before .before .before .before .loop .k) (omega (arith, c .before .before .before .before .before .loop-test .taken))), s .pre .1)
+    let l = c .before .before .before .before .before .loop in
+    let s = c .before .before .before .before .before .before .before .before .before .before .before .before .before .before .before in
+    let h : l .q < s .args .count = omega (arith, c .before .before .before .before .loop-test .taken) in
+    let e = c .place-at .ensures in
+    let k = getD (s .args .list .now) (l .q) 0 in (
+      s .pre .0,
+      subst (λ (p : Place). listed 31 p ≡ true) (sym e) (listed-at 31 k (s .pre .1 .low (l .q) h)),
+      s .pre .2,
+      listed-finds (s .args .s .level) (s .args .crcs .now) (getD (s .args .codes .now) (2 * l .q) 0) k e (s .pre .1 .first (l .q) h),
+      listed-finds (s .args .s .level) (s .args .others .now) (getD (s .args .codes .now) (2 * l .q + 1) 0) k e (s .pre .1 .second (l .q) h),
+    )
 
+-- src/find.rt:116:9
 choose-requires : tie.Need-choose-requires Inv-loop μ-loop
 choose-requires c κs = search needs
 
-add-k : tie.Need-add-k Inv-loop μ-loop
-add-k c = omega arith
+-- src/find.rt:117:9
+add-q : tie.Need-add-q Inv-loop μ-loop
+add-q c = let s = c .before .before .before .before .before .before .before .before .before .before .before .before .before .before .before .before .before in omega (arith, s .pre .1 .few)
 
+-- src/find.rt:103:5
 loop-less : tie.Need-loop-less Inv-loop μ-loop
 loop-less c = omega arith
 
+-- src/find.rt:103:5
 loop-again : tie.Need-loop-again Inv-loop μ-loop
 loop-again c =
-    let l = c .before .before .before .before .before .loop in
-    let s = c .before .before .before .before .before .before .before .before .before .before .before .before .before in
-    let h : l .k < 248 = omega arith in
+    let l = c .before .before .before .before .before .before .before .loop in
+    let s = c .before .before .before .before .before .before .before .before .before .before .before .before .before .before .before .before .before in
+    let h : l .q < s .args .count = omega (arith, c .before .before .before .before .before .before .loop-test .taken) in
     let f = candidateAt long (s .args .s) (windowOf 14 (s .args .samples .now)) in (
       omega arith,
-      ⊎-elim
-          (λ w. w .4 ∙ chosen-more f placeAt (l .k) (l .inv .1) (w .2 .ensures ∙ ap (λ (p : Place). survivorOf (f p)) (w .1 .ensures)) (w .3 .ensures))
-          (λ w. w .1 ∙ chosen-none f placeAt (l .k) (l .inv .1) (skipped _ _ _ _ _ _ (s .pre .0) (s .args .s) (l .k) h (c .before .says .ensures) (w .0 .left)))
-          (c .if1 .came),
+      found-more f (s .args .list .now) (l .q) (omega (arith, s .pre .1 .few, s .pre .1 .places)) (l .inv .1)
+      (c .before .read-at .ensures ∙ ap (λ (p : Place). survivorOf (f p)) (c .before .before .place-at .ensures)) (c .choose .ensures),
     )
 
+-- src/find.rt:86:1
 returns : tie.Need-returns Inv-loop μ-loop
 returns c =
     let l = c .before .loop in
-    let s = c .before .before .before .before .before .before .before .before .before .args in
-    let e : l .k ≡ 248 = omega arith in
-    l .inv .1 ∙ ap (λ (k : ℕ). survivorOf (scan (candidateAt long (s .s) (windowOf 14 (s .samples .now))) none (tabulate k placeAt))) e ∙ ap survivorOf (best-is (s .s) (windowOf 14 (s .samples .now)))
+    let s = c .before .before .before .before .before .before .before .before .before .before .before .args in
+    let e : l .q ≡ s .count = omega arith in
+    l .inv .1 ∙ ap (λ (n : ℕ). survivorOf (over (candidateAt long (s .s) (windowOf 14 (s .samples .now))) placeAt none (take n (s .list .now)))) e
 
 pub find-spec : {M : Type 1} → statement M
 find-spec =
@@ -102,17 +143,19 @@ find-spec =
     μ-loop
     nothing-requires
     loop-holds
-    add-i
-    mul-says
-    shared-slice-read-says
-    add-says
-    mul-says-2
-    shared-slice-read-says-2
-    says-requires
+    mul-read-at
+    mul-read-at-2
+    shared-slice-read-read-at
+    mul-read-at-3
+    add-read-at
+    mul-read-at-4
+    shared-slice-read-read-at-2
+    shared-slice-read-place-at
+    cast-place-at
     place-at-requires
     read-at-requires
     choose-requires
-    add-k
+    add-q
     loop-less
     loop-again
     returns)

@@ -1,165 +1,153 @@
--- `receiver::find::read_at` meets its contract: the row and the streams of the place are lent, and what clears its messages is told.
+-- `receiver::find::read_at` meets its contract: the row is lent, the streams are made, and what clears the messages is told.
 -- Assumes nothing.
-use native.Mathlib.Omega.{arith}
-use Prim.Native.Nat.{_+_, _-_, _*_}
 use mathlib.Core.Path.{refl}
+use Prim.Native.Nat.{_+_, _-_, _*_}
+use native.Mathlib.Omega.{arith}
+use lib.ListN.{length-take, length-drop}
 use Rattle.place.proofs.Within.{listed-gives}
 use Rattle.receiver.proofs.Prompting.{room}
-use Rattle.receiver.proofs.Finding.{ready-sizes, lent-row, lent-streams, lent-told, lent-read}
+use Rattle.receiver.proofs.Finding.{scanned-sizes, sums-length, starts, lent-streams, lent-known, lent-read}
 use borrow.Author.Needs.{needs}
 use Rattle.receiver.proofs.find.read_at.Statement.{statement}
 use Rattle.receiver.proofs.find.read_at.Tie as tie
+use Rattle.receiver.proofs.find.read_at.Reads as reads
+use Rattle.receiver.proofs.find.read_at.Lts as lts
+use Rattle.receiver.proofs.candidate.read_streams.Reads as read-streams-reads
+use Rattle.receiver.proofs.codes.bit_errors_by.Reads as bit-errors-by-reads
+use Rattle.receiver.proofs.find.lane_of.Reads as lane-of-reads
 
-mul-from : tie.Need-mul-from
-mul-from c = let s = c .before .before .before .before .before .before in let l = listed-gives 31 (s .args .place) (s .pre .1) in let z = ready-sizes _ _ _ _ _ _ (s .pre .0) in omega (arith, l .from, l .to, l .phase, l .symbol, z .sums, z .first, z .second, z .remainders, z .clear)
+-- src/find.rt:53:16
+mul-lane : tie.Need-mul-lane
+mul-lane c = let s = c .before .before .before .before .before .before .before in let l = listed-gives 31 (s .args .place) (s .pre .1) in let z = scanned-sizes _ _ _ _ _ (s .pre .0 .scanned) in let y = sums-length _ _ _ _ _ _ (s .pre .0) in omega (arith, l .from, l .to, l .phase, l .symbol, z .first, z .second, z .first-crcs, z .second-crcs, y)
 
-add-to : tie.Need-add-to
-add-to c = let s = c .before .before .before .before .before .before in let l = listed-gives 31 (s .args .place) (s .pre .1) in let z = ready-sizes _ _ _ _ _ _ (s .pre .0) in omega (arith, l .from, l .to, l .phase, l .symbol, z .sums, z .first, z .second, z .remainders, z .clear)
+-- src/find.rt:53:16
+add-lane : tie.Need-add-lane
+add-lane c = let s = c .before .before .before .before .before .before .before in let l = listed-gives 31 (s .args .place) (s .pre .1) in let z = scanned-sizes _ _ _ _ _ (s .pre .0 .scanned) in let y = sums-length _ _ _ _ _ _ (s .pre .0) in omega (arith, l .from, l .to, l .phase, l .symbol, z .first, z .second, z .first-crcs, z .second-crcs, y)
 
-mul-at : tie.Need-mul-at
-mul-at c = let s = c .before .before .before .before .before .before in let l = listed-gives 31 (s .args .place) (s .pre .1) in let z = ready-sizes _ _ _ _ _ _ (s .pre .0) in omega (arith, l .from, l .to, l .phase, l .symbol, z .sums, z .first, z .second, z .remainders, z .clear)
-
-mul-at-2 : tie.Need-mul-at-2
-mul-at-2 c = let s = c .before .before .before .before .before .before in let l = listed-gives 31 (s .args .place) (s .pre .1) in let z = ready-sizes _ _ _ _ _ _ (s .pre .0) in omega (arith, l .from, l .to, l .phase, l .symbol, z .sums, z .first, z .second, z .remainders, z .clear)
-
-add-at : tie.Need-add-at
-add-at c = let s = c .before .before .before .before .before .before in let l = listed-gives 31 (s .args .place) (s .pre .1) in let z = ready-sizes _ _ _ _ _ _ (s .pre .0) in omega (arith, l .from, l .to, l .phase, l .symbol, z .sums, z .first, z .second, z .remainders, z .clear)
-
-add-end : tie.Need-add-end
-add-end c = let s = c .before .before .before .before .before .before in let l = listed-gives 31 (s .args .place) (s .pre .1) in let z = ready-sizes _ _ _ _ _ _ (s .pre .0) in omega (arith, l .from, l .to, l .phase, l .symbol, z .sums, z .first, z .second, z .remainders, z .clear)
-
+-- src/find.rt:54:13
 mul-i : tie.Need-mul-i
-mul-i c = let s = c .before .before .before .before .before .before .before in let l = listed-gives 31 (s .args .place) (s .pre .1) in let z = ready-sizes _ _ _ _ _ _ (s .pre .0) in omega (arith, l .from, l .to, l .phase, l .symbol, z .sums, z .first, z .second, z .remainders, z .clear)
+mul-i c = let s = c .before .before .before .before .before .before .before .before in let l = listed-gives 31 (s .args .place) (s .pre .1) in let z = scanned-sizes _ _ _ _ _ (s .pre .0 .scanned) in let y = sums-length _ _ _ _ _ _ (s .pre .0) in omega (arith, l .from, l .to, l .phase, l .symbol, z .first, z .second, z .first-crcs, z .second-crcs, y)
 
-mul-i-2 : tie.Need-mul-i-2
-mul-i-2 c = let s = c .before .before .before .before .before .before .before in let l = listed-gives 31 (s .args .place) (s .pre .1) in let z = ready-sizes _ _ _ _ _ _ (s .pre .0) in omega (arith, l .from, l .to, l .phase, l .symbol, z .sums, z .first, z .second, z .remainders, z .clear)
-
+-- src/find.rt:54:13
 add-i : tie.Need-add-i
-add-i c = let s = c .before .before .before .before .before .before .before in let l = listed-gives 31 (s .args .place) (s .pre .1) in let z = ready-sizes _ _ _ _ _ _ (s .pre .0) in omega (arith, l .from, l .to, l .phase, l .symbol, z .sums, z .first, z .second, z .remainders, z .clear)
+add-i c = let s = c .before .before .before .before .before .before .before .before in let l = listed-gives 31 (s .args .place) (s .pre .1) in let z = scanned-sizes _ _ _ _ _ (s .pre .0 .scanned) in let y = sums-length _ _ _ _ _ _ (s .pre .0) in omega (arith, l .from, l .to, l .phase, l .symbol, z .first, z .second, z .first-crcs, z .second-crcs, y)
 
-add-i-2 : tie.Need-add-i-2
-add-i-2 c = let s = c .before .before .before .before .before .before .before in let l = listed-gives 31 (s .args .place) (s .pre .1) in let z = ready-sizes _ _ _ _ _ _ (s .pre .0) in omega (arith, l .from, l .to, l .phase, l .symbol, z .sums, z .first, z .second, z .remainders, z .clear)
+-- src/find.rt:54:13
+sub-i : tie.Need-sub-i
+sub-i c = let s = c .before .before .before .before .before .before .before .before in let l = listed-gives 31 (s .args .place) (s .pre .1) in let z = scanned-sizes _ _ _ _ _ (s .pre .0 .scanned) in let y = sums-length _ _ _ _ _ _ (s .pre .0) in omega (arith, l .from, l .to, l .phase, l .symbol, z .first, z .second, z .first-crcs, z .second-crcs, y)
 
-mul-bit-errors-of : tie.Need-mul-bit-errors-of
-mul-bit-errors-of c = let s = c .before .before .before .before .before .before .before in let l = listed-gives 31 (s .args .place) (s .pre .1) in let z = ready-sizes _ _ _ _ _ _ (s .pre .0) in omega (arith, l .from, l .to, l .phase, l .symbol, z .sums, z .first, z .second, z .remainders, z .clear)
+-- src/find.rt:55:15
+mul-crc : tie.Need-mul-crc
+mul-crc c = let s = c .before .before .before .before .before .before .before .before in let l = listed-gives 31 (s .args .place) (s .pre .1) in let z = scanned-sizes _ _ _ _ _ (s .pre .0 .scanned) in let y = sums-length _ _ _ _ _ _ (s .pre .0) in omega (arith, l .from, l .to, l .phase, l .symbol, z .first, z .second, z .first-crcs, z .second-crcs, y)
 
-shared-slice-read-bit-errors-of : tie.Need-shared-slice-read-bit-errors-of
-shared-slice-read-bit-errors-of c = let s = c .before .before .before .before .before .before .before .before in let l = listed-gives 31 (s .args .place) (s .pre .1) in let z = ready-sizes _ _ _ _ _ _ (s .pre .0) in omega (arith, l .from, l .to, l .phase, l .symbol, z .sums, z .first, z .second, z .remainders, z .clear)
+-- src/find.rt:55:15
+shared-slice-read-crc : tie.Need-shared-slice-read-crc
+shared-slice-read-crc c = let s = c .before .before .before .before .before .before .before .before .before in let l = listed-gives 31 (s .args .place) (s .pre .1) in let z = scanned-sizes _ _ _ _ _ (s .pre .0 .scanned) in let y = sums-length _ _ _ _ _ _ (s .pre .0) in omega (arith, l .from, l .to, l .phase, l .symbol, z .first, z .second, z .first-crcs, z .second-crcs, y)
 
-bit-errors-of-requires : tie.Need-bit-errors-of-requires
-bit-errors-of-requires c κs = search needs
+-- src/find.rt:56:17
+mul-other : tie.Need-mul-other
+mul-other c = let s = c .before .before .before .before .before .before .before .before .before in let l = listed-gives 31 (s .args .place) (s .pre .1) in let z = scanned-sizes _ _ _ _ _ (s .pre .0 .scanned) in let y = sums-length _ _ _ _ _ _ (s .pre .0) in omega (arith, l .from, l .to, l .phase, l .symbol, z .first, z .second, z .first-crcs, z .second-crcs, y)
 
-add-bit-errors-of : tie.Need-add-bit-errors-of
-add-bit-errors-of c = let s = c .before .before .before .before .before .before .before .before .before in let l = listed-gives 31 (s .args .place) (s .pre .1) in let z = ready-sizes _ _ _ _ _ _ (s .pre .0) in omega (arith, l .from, l .to, l .phase, l .symbol, z .sums, z .first, z .second, z .remainders, z .clear)
+-- src/find.rt:56:17
+shared-slice-read-other : tie.Need-shared-slice-read-other
+shared-slice-read-other c = let s = c .before .before .before .before .before .before .before .before .before .before in let l = listed-gives 31 (s .args .place) (s .pre .1) in let z = scanned-sizes _ _ _ _ _ (s .pre .0 .scanned) in let y = sums-length _ _ _ _ _ _ (s .pre .0) in omega (arith, l .from, l .to, l .phase, l .symbol, z .first, z .second, z .first-crcs, z .second-crcs, y)
 
-mul-bit-errors-of-2 : tie.Need-mul-bit-errors-of-2
-mul-bit-errors-of-2 c = let s = c .before .before .before .before .before .before .before .before .before in let l = listed-gives 31 (s .args .place) (s .pre .1) in let z = ready-sizes _ _ _ _ _ _ (s .pre .0) in omega (arith, l .from, l .to, l .phase, l .symbol, z .sums, z .first, z .second, z .remainders, z .clear)
+-- src/find.rt:57:17
+lane-of-requires : tie.Need-lane-of-requires
+lane-of-requires c κs = let s = c .before .before .before .before .before .before .before .before .before .before in let l = listed-gives 31 (s .args .place) (s .pre .1) in let z = scanned-sizes _ _ _ _ _ (s .pre .0 .scanned) in (z .first, omega (arith, l .phase, l .symbol))
 
-shared-slice-read-bit-errors-of-2 : tie.Need-shared-slice-read-bit-errors-of-2
-shared-slice-read-bit-errors-of-2 c = let s = c .before .before .before .before .before .before .before .before .before .before in let l = listed-gives 31 (s .args .place) (s .pre .1) in let z = ready-sizes _ _ _ _ _ _ (s .pre .0) in omega (arith, l .from, l .to, l .phase, l .symbol, z .sums, z .first, z .second, z .remainders, z .clear)
+-- src/find.rt:58:18
+lane-of-requires-2 : tie.Need-lane-of-requires-2
+lane-of-requires-2 c κs = let s = c .before .before .before .before .before .before .before .before .before .before .before in let l = listed-gives 31 (s .args .place) (s .pre .1) in let z = scanned-sizes _ _ _ _ _ (s .pre .0 .scanned) in (z .second, omega (arith, l .phase, l .symbol))
 
-bit-errors-of-requires-2 : tie.Need-bit-errors-of-requires-2
-bit-errors-of-requires-2 c κs = search needs
+-- src/find.rt:59:16
+mul-from : tie.Need-mul-from
+mul-from c = let s = c .before .before .before .before .before .before .before .before .before .before .before .before in let l = listed-gives 31 (s .args .place) (s .pre .1) in let z = scanned-sizes _ _ _ _ _ (s .pre .0 .scanned) in let y = sums-length _ _ _ _ _ _ (s .pre .0) in omega (arith, l .from, l .to, l .phase, l .symbol, z .first, z .second, z .first-crcs, z .second-crcs, y)
 
-mul-apart : tie.Need-mul-apart
-mul-apart c = let s = c .before .before .before .before .before .before .before .before .before .before .before in let l = listed-gives 31 (s .args .place) (s .pre .1) in let z = ready-sizes _ _ _ _ _ _ (s .pre .0) in omega (arith, l .from, l .to, l .phase, l .symbol, z .sums, z .first, z .second, z .remainders, z .clear)
+-- src/find.rt:60:14
+add-to : tie.Need-add-to
+add-to c = let s = c .before .before .before .before .before .before .before .before .before .before .before .before in let l = listed-gives 31 (s .args .place) (s .pre .1) in let z = scanned-sizes _ _ _ _ _ (s .pre .0 .scanned) in let y = sums-length _ _ _ _ _ _ (s .pre .0) in omega (arith, l .from, l .to, l .phase, l .symbol, z .first, z .second, z .first-crcs, z .second-crcs, y)
 
-shared-slice-read-apart : tie.Need-shared-slice-read-apart
-shared-slice-read-apart c = let s = c .before .before .before .before .before .before .before .before .before .before .before .before in let l = listed-gives 31 (s .args .place) (s .pre .1) in let z = ready-sizes _ _ _ _ _ _ (s .pre .0) in omega (arith, l .from, l .to, l .phase, l .symbol, z .sums, z .first, z .second, z .remainders, z .clear)
-
-add-apart : tie.Need-add-apart
-add-apart c = let s = c .before .before .before .before .before .before .before .before .before .before .before .before in let l = listed-gives 31 (s .args .place) (s .pre .1) in let z = ready-sizes _ _ _ _ _ _ (s .pre .0) in omega (arith, l .from, l .to, l .phase, l .symbol, z .sums, z .first, z .second, z .remainders, z .clear)
-
-mul-apart-2 : tie.Need-mul-apart-2
-mul-apart-2 c = let s = c .before .before .before .before .before .before .before .before .before .before .before .before in let l = listed-gives 31 (s .args .place) (s .pre .1) in let z = ready-sizes _ _ _ _ _ _ (s .pre .0) in omega (arith, l .from, l .to, l .phase, l .symbol, z .sums, z .first, z .second, z .remainders, z .clear)
-
-shared-slice-read-apart-2 : tie.Need-shared-slice-read-apart-2
-shared-slice-read-apart-2 c = let s = c .before .before .before .before .before .before .before .before .before .before .before .before .before in let l = listed-gives 31 (s .args .place) (s .pre .1) in let z = ready-sizes _ _ _ _ _ _ (s .pre .0) in omega (arith, l .from, l .to, l .phase, l .symbol, z .sums, z .first, z .second, z .remainders, z .clear)
-
+-- src/find.rt:63:9
 mul-read-streams : tie.Need-mul-read-streams
-mul-read-streams c = let s = c .before .before .before .before .before .before .before .before .before .before .before .before .before in let l = listed-gives 31 (s .args .place) (s .pre .1) in let z = ready-sizes _ _ _ _ _ _ (s .pre .0) in omega (arith, l .from, l .to, l .phase, l .symbol, z .sums, z .first, z .second, z .remainders, z .clear)
+mul-read-streams c = let s = c .before .before .before .before .before .before .before .before .before .before .before .before in let l = listed-gives 31 (s .args .place) (s .pre .1) in let z = scanned-sizes _ _ _ _ _ (s .pre .0 .scanned) in let y = sums-length _ _ _ _ _ _ (s .pre .0) in omega (arith, l .from, l .to, l .phase, l .symbol, z .first, z .second, z .first-crcs, z .second-crcs, y)
 
+-- src/find.rt:63:9
 sub-read-streams : tie.Need-sub-read-streams
 sub-read-streams c = search needs
 
+-- src/find.rt:63:9
 part-read-streams-start : tie.Need-part-read-streams-start
 part-read-streams-start c = search needs
 
+-- src/find.rt:63:9
 part-read-streams-end : tie.Need-part-read-streams-end
-part-read-streams-end c = let s = c .before .before .before .before .before .before .before .before .before .before .before .before .before in let l = listed-gives 31 (s .args .place) (s .pre .1) in let z = ready-sizes _ _ _ _ _ _ (s .pre .0) in omega (arith, l .from, l .to, l .phase, l .symbol, z .sums, z .first, z .second, z .remainders, z .clear)
+part-read-streams-end c = let s = c .before .before .before .before .before .before .before .before .before .before .before .before in let l = listed-gives 31 (s .args .place) (s .pre .1) in let z = scanned-sizes _ _ _ _ _ (s .pre .0 .scanned) in let y = sums-length _ _ _ _ _ _ (s .pre .0) in omega (arith, l .from, l .to, l .phase, l .symbol, z .first, z .second, z .first-crcs, z .second-crcs, y)
 
-sub-read-streams-2 : tie.Need-sub-read-streams-2
-sub-read-streams-2 c = search needs
+-- src/find.rt:64:9
+slice-aggregate-read-streams : tie.Need-slice-aggregate-read-streams
+slice-aggregate-read-streams c = search needs
 
-part-read-streams-start-2 : tie.Need-part-read-streams-start-2
-part-read-streams-start-2 c = search needs
+-- src/find.rt:65:9
+slice-aggregate-read-streams-2 : tie.Need-slice-aggregate-read-streams-2
+slice-aggregate-read-streams-2 c = search needs
 
-part-read-streams-end-2 : tie.Need-part-read-streams-end-2
-part-read-streams-end-2 c = let s = c .before .before .before .before .before .before .before .before .before .before .before .before .before .before in let l = listed-gives 31 (s .args .place) (s .pre .1) in let z = ready-sizes _ _ _ _ _ _ (s .pre .0) in omega (arith, l .from, l .to, l .phase, l .symbol, z .sums, z .first, z .second, z .remainders, z .clear)
+-- src/find.rt:68:9
+bit-errors-by-requires : tie.Need-bit-errors-by-requires
+bit-errors-by-requires c κs = search needs
 
-sub-read-streams-3 : tie.Need-sub-read-streams-3
-sub-read-streams-3 c = search needs
+-- src/find.rt:69:9
+bit-errors-by-requires-2 : tie.Need-bit-errors-by-requires-2
+bit-errors-by-requires-2 c κs = search needs
 
-part-read-streams-start-3 : tie.Need-part-read-streams-start-3
-part-read-streams-start-3 c = search needs
-
-part-read-streams-end-3 : tie.Need-part-read-streams-end-3
-part-read-streams-end-3 c = let s = c .before .before .before .before .before .before .before .before .before .before .before .before .before .before .before in let l = listed-gives 31 (s .args .place) (s .pre .1) in let z = ready-sizes _ _ _ _ _ _ (s .pre .0) in omega (arith, l .from, l .to, l .phase, l .symbol, z .sums, z .first, z .second, z .remainders, z .clear)
-
+-- src/find.rt:61:5
 read-streams-requires : tie.Need-read-streams-requires
 read-streams-requires c κs =
-    let s = c .before .before .before .before .before .before .before .before .before .before .before .before .before .before .before .before in
-    let p = s .args .place in (
-      s .pre .0 .whole,
-      lent-row (s .args .samples .now) (s .args .symbols .now) (s .args .coherent .now) (s .args .noncoherent .now) (s .args .crcs .now) (s .args .codes .now) (s .pre .0) p (s .pre .1) (576 * p .phase + 576 - 576 * p .phase) (36 * p .phase + 18 * p .symbol + 18 - (36 * p .phase + 18 * p .symbol)) (omega arith) (omega arith),
-      lent-streams (s .args .samples .now) (s .args .symbols .now) (s .args .coherent .now) (s .args .noncoherent .now) (s .args .crcs .now) (s .args .codes .now) (s .pre .0) p (s .pre .1) (576 * p .phase + 576 - 576 * p .phase) (36 * p .phase + 18 * p .symbol + 18 - (36 * p .phase + 18 * p .symbol)) (omega arith) (omega arith),
-      room p (s .pre .1) .within-it,
-      s .pre .2,
-      lent-told (s .args .samples .now) (s .args .symbols .now) (s .args .coherent .now) (s .args .noncoherent .now) (s .args .crcs .now) (s .args .codes .now) (s .pre .0) p (s .pre .1) (576 * p .phase + 576 - 576 * p .phase) (36 * p .phase + 18 * p .symbol + 18 - (36 * p .phase + 18 * p .symbol)) (omega arith) (omega arith)
-          (c .before .before .before .before .before .before .before .bit-errors-of .ensures) (c .before .before .before .before .before .bit-errors-of2 .ensures) refl,
-    )
-
-returns : tie.Need-returns
-returns c =
     let s = c .before .before .before .before .before .before .before .before .before .before .before .before .before .before .before .before .before in
     let p = s .args .place in
-    lent-read (s .args .samples .now) (s .args .symbols .now) (s .args .coherent .now) (s .args .noncoherent .now) (s .args .crcs .now) (s .args .codes .now) (s .pre .0) p (s .pre .1) (576 * p .phase + 576 - 576 * p .phase) (36 * p .phase + 18 * p .symbol + 18 - (36 * p .phase + 18 * p .symbol)) (omega arith) (omega arith) (s .args .s) (c .read-streams .ensures)
+    let a = c .before .before .before .before .before .before .lane-of .ensures in
+    let b = c .before .before .before .before .before .lane-of2 .ensures in
+    let l = listed-gives 31 p (s .pre .1) in
+    let y = sums-length _ _ _ _ _ _ (s .pre .0) in (
+      s .pre .0 .scanned .whole,
+      simp (length-take, length-drop) (omega (arith, l .phase, y)),
+      lent-streams (s .args .samples .now) (s .args .symbols .now) (s .args .coherent .now) (s .args .noncoherent .now) (s .args .crcs .now) (s .args .others .now) (s .pre .0) p (s .pre .1) a b,
+      room p (s .pre .1) .within-it,
+      s .pre .2,
+      lent-known (s .args .samples .now) (s .args .symbols .now) (s .args .coherent .now) (s .args .noncoherent .now) (s .args .crcs .now) (s .args .others .now) (s .pre .0) p (s .pre .1) a b (s .args .s .level) (8 * p .bit + (4 * p .symbol + p .phase) - 8) (s .args .c) (s .args .d) (starts p (s .pre .1) .lane) (s .pre .3) (s .pre .4) (c .before .bit-errors-by .ensures) (c .bit-errors-by2 .ensures) refl,
+    )
+
+-- src/find.rt:37:1
+returns : tie.Need-returns
+returns c =
+    let s = c .before .before .before .before .before .before .before .before .before .before .before .before .before .before .before .before .before .before in
+    let p = s .args .place in
+    lent-read (s .args .samples .now) (s .args .symbols .now) (s .args .coherent .now) (s .args .noncoherent .now) (s .args .crcs .now) (s .args .others .now) (s .pre .0) p (s .pre .1) (c .before .before .before .before .before .before .before .lane-of .ensures) (c .before .before .before .before .before .before .lane-of2 .ensures) (s .args .s) (576 * p .phase + 576 - 576 * p .phase) (omega arith) (c .read-streams .ensures)
 
 pub read-at-spec : {M : Type 1} → statement M
 read-at-spec =
     tie.close
     (tie.spec
+    mul-lane
+    add-lane
+    mul-i
+    add-i
+    sub-i
+    mul-crc
+    shared-slice-read-crc
+    mul-other
+    shared-slice-read-other
+    lane-of-requires
+    lane-of-requires-2
     mul-from
     add-to
-    mul-at
-    mul-at-2
-    add-at
-    add-end
-    mul-i
-    mul-i-2
-    add-i
-    add-i-2
-    mul-bit-errors-of
-    shared-slice-read-bit-errors-of
-    bit-errors-of-requires
-    add-bit-errors-of
-    mul-bit-errors-of-2
-    shared-slice-read-bit-errors-of-2
-    bit-errors-of-requires-2
-    mul-apart
-    shared-slice-read-apart
-    add-apart
-    mul-apart-2
-    shared-slice-read-apart-2
     mul-read-streams
     sub-read-streams
     part-read-streams-start
     part-read-streams-end
-    sub-read-streams-2
-    part-read-streams-start-2
-    part-read-streams-end-2
-    sub-read-streams-3
-    part-read-streams-start-3
-    part-read-streams-end-3
+    slice-aggregate-read-streams
+    slice-aggregate-read-streams-2
+    bit-errors-by-requires
+    bit-errors-by-requires-2
     read-streams-requires
     returns)

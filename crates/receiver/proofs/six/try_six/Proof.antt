@@ -1,8 +1,7 @@
 -- `receiver::six::try_six` meets its contract: six trials one after the other are the reading.
 -- Assumes nothing.
-use mathlib.Core.Path.{ap, _∙_}
-use Rattle.receiver.specs.Inner.{foundInside}
-use Rattle.receiver.proofs.Turns.{in-turn, reading-by, any-inside}
+use mathlib.Core.Path.{_∙_}
+use Rattle.receiver.proofs.Turns.{in-turn, reading-by}
 use borrow.Author.Needs.{needs}
 use Rattle.receiver.proofs.six.try_six.Statement.{statement}
 use Rattle.receiver.proofs.six.try_six.Tie as tie
@@ -14,22 +13,22 @@ both-requires-2 : tie.Need-both-requires-2
 both-requires-2 c κs = search needs
 
 then-try-requires : tie.Need-then-try-requires
-then-try-requires c κs = let s = c .before .before .before .before in (s .pre .0 .first, s .pre .0 .low, ap foundInside (s .pre .1 .first) ∙ any-inside _)
+then-try-requires c κs = let s = c .before .before .before .before in (s .pre .0 .first, s .pre .0 .low, s .pre .1 .first .lies)
 
 then-try-requires-2 : tie.Need-then-try-requires-2
-then-try-requires-2 c κs = let s = c .before .before .before .before .before in (s .pre .0 .second, s .pre .0 .low, ap foundInside (s .pre .1 .second) ∙ any-inside _)
+then-try-requires-2 c κs = let s = c .before .before .before .before .before in (s .pre .0 .second, s .pre .0 .low, s .pre .1 .second .lies)
 
 then-try-requires-3 : tie.Need-then-try-requires-3
-then-try-requires-3 c κs = let s = c .before .before .before .before .before .before in (s .pre .0 .first, s .pre .0 .low, ap foundInside (s .pre .1 .first) ∙ any-inside _)
+then-try-requires-3 c κs = let s = c .before .before .before .before .before .before in (s .pre .0 .first, s .pre .0 .low, s .pre .1 .first .lies)
 
 then-try-requires-4 : tie.Need-then-try-requires-4
-then-try-requires-4 c κs = let s = c .before .before .before .before .before .before .before in (s .pre .0 .second, s .pre .0 .low, ap foundInside (s .pre .1 .second) ∙ any-inside _)
+then-try-requires-4 c κs = let s = c .before .before .before .before .before .before .before in (s .pre .0 .second, s .pre .0 .low, s .pre .1 .second .lies)
 
 then-try-requires-5 : tie.Need-then-try-requires-5
-then-try-requires-5 c κs = let s = c .before .before .before .before .before .before .before .before in (s .pre .0 .first, s .pre .0 .low, ap foundInside (s .pre .1 .first) ∙ any-inside _)
+then-try-requires-5 c κs = let s = c .before .before .before .before .before .before .before .before in (s .pre .0 .first, s .pre .0 .low, s .pre .1 .first .lies)
 
 then-try-requires-6 : tie.Need-then-try-requires-6
-then-try-requires-6 c κs = let s = c .before .before .before .before .before .before .before .before .before in (s .pre .0 .second, s .pre .0 .low, ap foundInside (s .pre .1 .second) ∙ any-inside _)
+then-try-requires-6 c κs = let s = c .before .before .before .before .before .before .before .before .before in (s .pre .0 .second, s .pre .0 .low, s .pre .1 .second .lies)
 
 returns : tie.Need-returns
 returns c =

@@ -6,6 +6,7 @@ use Rattle.lists.proofs.Telling.{told-refused, told-done}
 use Rattle.annex10.specs.Any.{clearingAny}
 use Rattle.receiver.specs.Tries.{triedAt}
 use Rattle.receiver.proofs.Answering.{try-opened}
+use Rattle.receiver.proofs.Turns.{any-finds}
 use borrow.Author.Needs.{needs}
 use Rattle.receiver.proofs.trials.try_decode.Statement.{statement}
 use Rattle.receiver.proofs.trials.try_decode.Tie as tie
@@ -35,7 +36,7 @@ try-six-requires c κs =
     let e = c .before .before .before .crc-at .ensures in
     let f = c .before .before .crc-at2 .ensures in (
       record { first = t .size; second = t .other; low = t .low },
-      record { first = c .before .bit-errors .ensures ∙ ap (clearingAny 14) e; second = c .bit-errors2 .ensures ∙ ap (clearingAny 14) f; differ = rw (e, f) },
+      record { first = any-finds _ _ (c .before .bit-errors .ensures ∙ ap (clearingAny 14) e); second = any-finds _ _ (c .bit-errors2 .ensures ∙ ap (clearingAny 14) f); differ = rw (e, f) },
     )
 
 returns-2 : tie.Need-returns-2

@@ -1,71 +1,56 @@
--- `receiver::window::best_of` meets its contract: the streams, the remainders and what clears them are made, and lent.
+-- `receiver::window::best_of` meets its contract: the window is scanned, and the search is made in stages.
 -- Assumes nothing.
-use mathlib.Core.Path.{refl, ap, _∙_}
-use lib.ListN.{length}
-use Rattle.kernels.proofs.Summing.{symbols-length}
-use Rattle.receiver.proofs.Clearing.{codes-are}
+use mathlib.Core.Path.{refl}
+use Rattle.receiver.proofs.Finding.{scan-done}
 use borrow.Author.Needs.{needs}
 use Rattle.receiver.proofs.window.best_of.Statement.{statement}
 use Rattle.receiver.proofs.window.best_of.Tie as tie
+use Rattle.receiver.proofs.window.best_of.Reads as reads
+use Rattle.receiver.proofs.window.best_of.Lts as lts
+use Rattle.receiver.proofs.window.in_stages.Reads as in-stages-reads
+use Rattle.scan.proofs.window.scan.Reads as scan-reads
 
-slice-aggregate-demodulate-rows : tie.Need-slice-aggregate-demodulate-rows
-slice-aggregate-demodulate-rows c = search needs
+-- src/window.rt:140:19
+slice-aggregate-scan : tie.Need-slice-aggregate-scan
+slice-aggregate-scan c = search needs
 
-slice-aggregate-demodulate-rows-2 : tie.Need-slice-aggregate-demodulate-rows-2
-slice-aggregate-demodulate-rows-2 c = search needs
+-- src/window.rt:140:34
+slice-aggregate-scan-2 : tie.Need-slice-aggregate-scan-2
+slice-aggregate-scan-2 c = search needs
 
-demodulate-rows-requires : tie.Need-demodulate-rows-requires
-demodulate-rows-requires c κs = let s = c .before .before .before .before in (ap length (s .pre .1) ∙ symbols-length (s .args .samples .now), refl, refl)
+-- src/window.rt:140:52
+slice-aggregate-scan-3 : tie.Need-slice-aggregate-scan-3
+slice-aggregate-scan-3 c = search needs
 
-slice-aggregate-all-crcs : tie.Need-slice-aggregate-all-crcs
-slice-aggregate-all-crcs c = search needs
+-- src/window.rt:140:63
+slice-aggregate-scan-4 : tie.Need-slice-aggregate-scan-4
+slice-aggregate-scan-4 c = search needs
 
-slice-aggregate-all-crcs-2 : tie.Need-slice-aggregate-all-crcs-2
-slice-aggregate-all-crcs-2 c = search needs
+-- src/window.rt:140:5
+scan-requires : tie.Need-scan-requires
+scan-requires c κs = search needs
 
-slice-aggregate-all-crcs-3 : tie.Need-slice-aggregate-all-crcs-3
-slice-aggregate-all-crcs-3 c = search needs
+-- src/window.rt:141:24
+slice-aggregate-in-stages : tie.Need-slice-aggregate-in-stages
+slice-aggregate-in-stages c = search needs
 
-all-crcs-requires : tie.Need-all-crcs-requires
-all-crcs-requires c κs = search needs
+-- src/window.rt:141:35
+slice-aggregate-in-stages-2 : tie.Need-slice-aggregate-in-stages-2
+slice-aggregate-in-stages-2 c = search needs
 
-slice-aggregate-bit-errors-from-crc24s : tie.Need-slice-aggregate-bit-errors-from-crc24s
-slice-aggregate-bit-errors-from-crc24s c = search needs
+-- src/window.rt:141:49
+slice-aggregate-in-stages-3 : tie.Need-slice-aggregate-in-stages-3
+slice-aggregate-in-stages-3 c = search needs
 
-slice-aggregate-bit-errors-from-crc24s-2 : tie.Need-slice-aggregate-bit-errors-from-crc24s-2
-slice-aggregate-bit-errors-from-crc24s-2 c = search needs
+-- src/window.rt:141:56
+slice-aggregate-in-stages-4 : tie.Need-slice-aggregate-in-stages-4
+slice-aggregate-in-stages-4 c = search needs
 
-bit-errors-from-crc24s-requires : tie.Need-bit-errors-from-crc24s-requires
-bit-errors-from-crc24s-requires c κs = search needs
+-- src/window.rt:141:5
+in-stages-requires : tie.Need-in-stages-requires
+in-stages-requires c κs = let s = c .before .before .before .before .before .before .before .before .before .before .before .before .before .before in (scan-done _ _ _ _ _ (s .pre .0) refl refl refl refl (c .before .before .before .before .before .before .before .before .scan .ensures), s .pre .1)
 
-slice-aggregate-find : tie.Need-slice-aggregate-find
-slice-aggregate-find c = search needs
-
-slice-aggregate-find-2 : tie.Need-slice-aggregate-find-2
-slice-aggregate-find-2 c = search needs
-
-slice-aggregate-find-3 : tie.Need-slice-aggregate-find-3
-slice-aggregate-find-3 c = search needs
-
-slice-aggregate-find-4 : tie.Need-slice-aggregate-find-4
-slice-aggregate-find-4 c = search needs
-
-find-requires : tie.Need-find-requires
-find-requires c κs =
-    let s = c .before .before .before .before .before .before .before .before .before .before .before .before .before .before .before .before .before .before .before .before in
-    let d = c .before .before .before .before .before .before .before .before .before .before .before .before .before .before .before .demodulate-rows .ensures in
-    let e = c .before .before .before .before .before .before .before .before .before .all-crcs .ensures in (
-      record {
-        whole = s .pre .0;
-        sums = s .pre .1;
-        first = d .0;
-        second = d .1;
-        remainders = e;
-        clear = codes-are _ _ _ _ _ e refl (c .before .before .before .before .before .bit-errors-from-crc24s .ensures);
-      },
-      s .pre .2,
-    )
-
+-- src/window.rt:132:1
 returns : tie.Need-returns
 returns c = search needs
 
@@ -73,19 +58,14 @@ pub best-of-spec : {M : Type 1} → statement M
 best-of-spec =
     tie.close
     (tie.spec
-    slice-aggregate-demodulate-rows
-    slice-aggregate-demodulate-rows-2
-    demodulate-rows-requires
-    slice-aggregate-all-crcs
-    slice-aggregate-all-crcs-2
-    slice-aggregate-all-crcs-3
-    all-crcs-requires
-    slice-aggregate-bit-errors-from-crc24s
-    slice-aggregate-bit-errors-from-crc24s-2
-    bit-errors-from-crc24s-requires
-    slice-aggregate-find
-    slice-aggregate-find-2
-    slice-aggregate-find-3
-    slice-aggregate-find-4
-    find-requires
+    slice-aggregate-scan
+    slice-aggregate-scan-2
+    slice-aggregate-scan-3
+    slice-aggregate-scan-4
+    scan-requires
+    slice-aggregate-in-stages
+    slice-aggregate-in-stages-2
+    slice-aggregate-in-stages-3
+    slice-aggregate-in-stages-4
+    in-stages-requires
     returns)

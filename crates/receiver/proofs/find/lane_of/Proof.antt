@@ -1,0 +1,31 @@
+-- `receiver::find::lane_of` meets its contract.
+-- Assumes nothing.
+use mathlib.Core.Path.{refl, ap, _∙_}
+use mathlib.Core.List.{List}
+use Prim.Native.Nat.{ℕ}
+use native.Mathlib.Omega.{arith}
+use lib.ListN.{replicate}
+use Rattle.scan.proofs.Packing.{lane-done}
+use borrow.Author.Needs.{needs}
+use Rattle.receiver.proofs.find.lane_of.Statement.{statement}
+use Rattle.receiver.proofs.find.lane_of.Tie as tie
+use Rattle.receiver.proofs.find.lane_of.Reads as reads
+use Rattle.receiver.proofs.find.lane_of.Lts as lts
+use Rattle.scan.proofs.stream.find_stream.Reads as find-stream-reads
+
+-- src/find.rt:31:29
+slice-aggregate-find-stream : tie.Need-slice-aggregate-find-stream
+slice-aggregate-find-stream c = search needs
+
+-- src/find.rt:31:5
+find-stream-requires : tie.Need-find-stream-requires
+find-stream-requires c κs = search needs
+
+-- src/find.rt:26:1
+returns : tie.Need-returns
+returns c =
+    let s = c .before .before .before .before in
+    ap (λ (x : ℕ × List ℕ). x .1) (c .before .find-stream .ensures ∙ lane-done (s .args .bits .now) (s .args .lane) (replicate 18 0) (s .pre .0) refl (omega (arith, s .pre .1)))
+
+pub lane-of-spec : {M : Type 1} → statement M
+lane-of-spec = tie.close (tie.spec slice-aggregate-find-stream find-stream-requires returns)

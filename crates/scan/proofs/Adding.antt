@@ -1,7 +1,9 @@
 -- Laws of remainders that are added up bit by bit.
---     power-law      the rule of a table is one computed test
---     Partial        eight sums of which the first t have bit j
---     partial-none, partial-more, partial-row, partial-all
+--     power-law, power-lt     the rule of a table is one computed test; its numbers are below 2^32
+--     mul-fits                a number times a bit is not greater
+--     zeros-at                an array before its first store
+--     Partial                 eight sums of which the first t have bit j
+--     partial-none, partial-more, partial-row, partial-all     before the loops, a lane, a row of lanes, and after all bits
 -- Assumes nothing.
 use mathlib.Core.Path.{_≡_, refl, sym, ap, _∙_, subst, fun-ext}
 use mathlib.Core.Bool.{Bool}

@@ -6,16 +6,23 @@
 use mathlib.Core.Path.{_≡_, refl, sym, ap, _∙_, subst, fun-ext}
 use mathlib.Core.List.{List}
 use Prim.Native.Nat.{ℕ, zero, suc, _+_, _*_, _/_, _%_, _^_, _<_}
-use native.Mathlib.Nat.{add-zero}
+use native.Mathlib.Nat.{add-zero, zero-mul, one-mul, mod-eq-of-lt}
 use native.Mathlib.Omega.{arith}
+use lib.Bits.{bitXor, bitAnd, xor-zero-r, and-comm, and-zero-r, and-mask}
+use lib.Dec.{lit<}
 use lib.ListN.{getD, replicate}
-use lib.Bits.{bitXor, xor-zero-r}
 use Rattle.lists.specs.Bits.{packed}
 use Rattle.annex10.specs.Remainder.{generator, less, bring, divide, remainder}
 use Rattle.annex10.proofs.Linear.{remainder-lt}
 use Rattle.annex10.proofs.Rolling.{rolled}
 use Rattle.scan.specs.Flat.{messageFrom, crcIn}
 use Rattle.scan.specs.Inner.{Digits, next}
+
+-- a word of ones or zeros takes a number or nothing
+taken : (b x : ℕ) → b < 2 → x < 2 ^ 32 → bitAnd (b * 0xffffffff) x ≡ b * x
+taken zero x h l = and-comm 0 x ∙ and-zero-r x ∙ sym (zero-mul x)
+taken (suc zero) x h l = and-comm 0xffffffff x ∙ and-mask x 32 ∙ mod-eq-of-lt l ∙ sym (one-mul x)
+taken (suc (suc b)) x h l = omega arith
 
 less-times : (q x : ℕ) → q < 2 → bitXor x (q * generator) ≡ less q x
 less-times zero x h = xor-zero-r x
@@ -42,10 +49,12 @@ leaves (suc zero) h = refl
 leaves (suc (suc b)) h = omega arith
 
 -- a step, as the code computes it
-pub step-is : (crc leaving entering : ℕ) → crc < 2 ^ 24 → leaving < 2 → entering < 2
-    → bitXor (bitXor (bitXor (crc * 2 % 2 ^ 32) (crc / 2 ^ 23 * generator)) (entering * 0xfff409)) (leaving * 0x2d833c) ≡ next 14 crc leaving entering
+pub step-is : (crc leaving entering : ℕ) {x y z : ℕ} → crc < 2 ^ 24 → leaving < 2 → entering < 2
+    → x ≡ crc / 2 ^ 23 * 0xffffffff → y ≡ entering * 0xffffffff → z ≡ leaving * 0xffffffff
+    → bitXor (bitXor (bitXor (crc * 2 % 2 ^ 32) (bitAnd x generator)) (bitAnd y 0xfff409)) (bitAnd z 0x2d833c) ≡ next 14 crc leaving entering
 unfolding next
-step-is crc leaving entering hc hl he = rw (twice-is crc hc, enters entering he, leaves leaving hl)
+step-is crc leaving entering hc hl he ex ey ez =
+    rw (ex, ey, ez, taken (crc / 2 ^ 23) generator (omega arith) (lit< tt), taken entering 0xfff409 he (lit< tt), taken leaving 0x2d833c hl (lit< tt), twice-is crc hc, enters entering he, leaves leaving hl)
 
 pub crc-lt : (n : ℕ) (bits : List ℕ) (i : ℕ) {crc : ℕ} → crc ≡ crcIn n bits i → crc < 2 ^ 24
 unfolding crcIn

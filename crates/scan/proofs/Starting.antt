@@ -4,7 +4,7 @@
 --     place-start   the sample that place k starts with
 --     lane-lt       its lane is one of those that are scanned
 --     bits-number, crc-start     its message, and its remainder among those that are scanned: of n bytes, at bit offsets 1 to m
---     stream-lane   the stream of a place is that of its lane
+--     stream-lane, stream-number     the stream of a place is that of its lane: of any place, of place k
 --     digits-of, digits-made     they are bits, one for each sample
 --     reals-made, norms-made     what the calls of find_bits made
 -- Assumes nothing.
@@ -165,22 +165,22 @@ place-start k =
 pub lane-lt : (m k : ℕ) → k < 8 * m → laneOf k < 8 * m
 lane-lt m k h = omega arith
 
+phase-lt : (k : ℕ) → placeAt k .phase < 4
+unfolding placeAt
+phase-lt k = omega arith
+
+symbol-lt : (k : ℕ) → placeAt k .symbol < 2
+unfolding placeAt
+symbol-lt k = omega arith
+
 -- the messages of n bytes at bit offsets 1 to m end within the window
 module _ (n m k : ℕ) (h : m + 8 * n < 144) (l : k < 8 * m) where
-  phase-lt : placeAt k .phase < 4
-  unfolding placeAt
-  phase-lt = omega arith
-
-  symbol-lt : placeAt k .symbol < 2
-  unfolding placeAt
-  symbol-lt = omega arith
-
   ends : placeAt k .bit + 8 * n ≤ 144
   unfolding placeAt
   ends = omega arith
 
   pub bits-number : (slicer : Slicer) (s : List Float) → bitsAt n s slicer (placeAt k) ≡ messageFrom n (bitsFrom slicer s) (8 + laneOf k)
-  bits-number slicer s = bits-start n slicer s (placeAt k) phase-lt symbol-lt ends ∙ ap (messageFrom n (bitsFrom slicer s)) (sym (place-start k))
+  bits-number slicer s = bits-start n slicer s (placeAt k) (phase-lt k) (symbol-lt k) ends ∙ ap (messageFrom n (bitsFrom slicer s)) (sym (place-start k))
 
   pub crc-start : (slicer : Slicer) (s : List Float) → getD (crcsIn n (bitsFrom slicer s) (8 * m)) (laneOf k) 0 ≡ remainder (bitsAt n s slicer (placeAt k))
   unfolding crcsIn crcIn
@@ -227,6 +227,11 @@ stream-lane slicer s p hk ht =
     let e : t + 8 * j ≡ 8 * j + 4 * p .symbol + p .phase = omega arith in
     mod-eq-of-lt (digits-of slicer s .each (t + 8 * j))
     ∙ ap (λ (i : ℕ). getD (bitsFrom slicer s) i 0) e ∙ sym (start-bit slicer s (p .phase) (p .symbol) j hk ht h))
+
+pub stream-number : (slicer : Slicer) (s : List Float) (k : ℕ) → laneBytes (bitsFrom slicer s) (laneOf k % 8) ≡ stream s slicer (placeAt k)
+stream-number slicer s k =
+    let e : laneOf k % 8 ≡ 4 * placeAt k .symbol + placeAt k .phase = omega (arith, place-start k, phase-lt k, symbol-lt k) in
+    ap (laneBytes (bitsFrom slicer s)) e ∙ stream-lane slicer s (placeAt k) (phase-lt k) (symbol-lt k)
 
 -- ---- made by the calls
 

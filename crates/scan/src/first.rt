@@ -1,5 +1,5 @@
 // The remainders at the first bit offset, as sums.
-use crate::powers::POWERS;
+use crate::tables::POWERS;
 ghost use mathlib.Core.Path.{_≡_};
 ghost use lib.ListN.{length};
 ghost use Rattle.lists.proofs.Table.{Done};

@@ -5,7 +5,7 @@ mod crcs;
 mod first;
 pub mod list;
 mod marks;
-mod powers;
 mod rows;
 pub mod stream;
+mod tables;
 pub mod window;

@@ -4,17 +4,19 @@ use Rattle.scan.proofs.Rolled.{step-is}
 use Rattle.scan.proofs.crcs.roll.Statement.{statement}
 use Rattle.scan.proofs.crcs.roll.Tie as tie
 
-mul-twice : tie.Need-mul-twice
-mul-twice c = search needs
+mask-requires : tie.Need-mask-requires
+mask-requires c κs = search needs
 
-mul-result : tie.Need-mul-result
-mul-result c = search needs
+mask-requires-2 : tie.Need-mask-requires-2
+mask-requires-2 c κs = search needs
 
-mul-result-2 : tie.Need-mul-result-2
-mul-result-2 c = search needs
+mask-requires-3 : tie.Need-mask-requires-3
+mask-requires-3 c κs = search needs
 
 returns : tie.Need-returns
-returns c = step-is _ _ _ (c .pre .0) (c .pre .1) (c .pre .2)
+returns c =
+    let p = c .before .before .before .pre in
+    step-is _ _ _ (p .0) (p .1) (p .2) (c .before .before .mask .ensures) (c .before .mask2 .ensures) (c .mask3 .ensures)
 
 pub roll-spec : {M : Type 1} → statement M
-roll-spec = tie.close (tie.spec mul-twice mul-result mul-result-2 returns)
+roll-spec = tie.close (tie.spec mask-requires mask-requires-2 mask-requires-3 returns)

@@ -1,0 +1,24 @@
+-- Each public contract of scan fixes its outcome. Written by tools/outcomes; the prover trusts nothing of it.
+-- Assumes nothing.
+use mathlib.Core.Path.{refl}
+use denote.Ref.{now}
+use Rattle.outcomes.specs.Outcome.{Fixed, answer}
+use Rattle.outcomes.proofs.Law.{fixes, answer-set}
+use Rattle.scan.proofs.list.list_exact as list-list-exact
+use Rattle.scan.proofs.stream.find_stream as stream-find-stream
+use Rattle.scan.proofs.window.scan as window-scan
+
+pub list-list-exact-fixed : Fixed list-list-exact.ended (answer _) (λ M 𝓤 H. list-list-exact.clauses 𝓤 H) (λ M 𝓤 H. list-list-exact.spec 𝓤 H)
+list-list-exact-fixed =
+    fixes list-list-exact.ended _ (answer-set list-list-exact.ended) refl (λ κs. refl)
+    (λ κs a r e. (r, now (e .1 .1 .1 .1 .0))) (λ κs a y. (y .0, (tt, (tt, (tt, (tt, (y .1, tt))))))) (λ κs a r ws. refl)
+
+pub stream-find-stream-fixed : Fixed stream-find-stream.ended (answer _) (λ M 𝓤 H. stream-find-stream.clauses 𝓤 H) (λ M 𝓤 H. stream-find-stream.spec 𝓤 H)
+stream-find-stream-fixed =
+    fixes stream-find-stream.ended _ (answer-set stream-find-stream.ended) refl (λ κs. refl)
+    (λ κs a r e. (r, now (e .1 .1 .0))) (λ κs a y. (y .0, (tt, (tt, (y .1, tt))))) (λ κs a r ws. refl)
+
+pub window-scan-fixed : Fixed window-scan.ended (answer _) (λ M 𝓤 H. window-scan.clauses 𝓤 H) (λ M 𝓤 H. window-scan.spec 𝓤 H)
+window-scan-fixed =
+    fixes window-scan.ended _ (answer-set window-scan.ended) refl (λ κs. refl)
+    (λ κs a r e. (r, now (e .1 .0), now (e .1 .1 .0), now (e .1 .1 .1 .0), now (e .1 .1 .1 .1 .0))) (λ κs a y. (y .0, (tt, (y .1, (y .2, (y .3, (y .4, tt))))))) (λ κs a r ws. refl)

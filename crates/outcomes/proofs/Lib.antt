@@ -17,6 +17,7 @@ pub mod Probes
 pub mod Receiver
 pub mod Repairs
 pub mod Rolling
+pub mod Sieve
 pub mod Streams
 pub mod Timing
 pub mod Words

@@ -7,7 +7,7 @@
 --     zero-gone                  no other number clears it
 --     gone-high                  no pattern has more than 24 bits
 -- Assumes nothing.
-use mathlib.Core.Path.{_≡_, refl, sym, ap, _∙_, subst}
+use mathlib.Core.Path.{_≡_, refl, sym, _∙_, subst}
 use Prim.Native.Nat.{ℕ, zero, suc, _^_, _≤_, _<_}
 use native.Mathlib.Nat.{lt-irrefl, lt-of-lt-of-le}
 use native.Mathlib.Omega.{arith}

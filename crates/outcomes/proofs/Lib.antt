@@ -18,6 +18,4 @@ pub mod Receiver
 pub mod Repairs
 pub mod Rolling
 pub mod Scan
-pub mod Streams
-pub mod Timing
-pub mod Words
+pub mod Sieve

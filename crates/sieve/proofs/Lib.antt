@@ -1,0 +1,5 @@
+pub mod Placed
+pub mod Clears
+pub mod Listing
+pub mod Owning
+pub mod Picking

@@ -1,0 +1,74 @@
+-- What private functions rest on: no public contract cites it.
+-- A hash that only lets through: the lowest bits of a remainder choose a displacement, which moves some of the upper bits to a slot, and
+-- the slot names the low bits of the remainder that owns it. Each pattern of at least one and at most so many positions owns its slot.
+-- Assumes nothing.
+use mathlib.Core.Path.{_≡_}
+use mathlib.Core.Bool.{Bool, cond, _||_}
+use mathlib.Core.List.{List, [], _∷_, _++_}
+use Prim.Native.Nat.{ℕ, zero, suc, _+_, _*_, _/_, _^_, _<_, _≤_}
+use lib.Bits.{bitXor, bitAnd}
+use lib.Dec.{eqb, ltb}
+use lib.ListN.{length, getD}
+use Rattle.annex10.specs.declared.Repairs.{Repairs}
+use Rattle.annex10.specs.Repair.{Proper, count, pattern}
+use Rattle.sieve.specs.declared.list.Shape.{Shape}
+use Rattle.scan.specs.Sieve.{laneOf, onto}
+
+-- the slot of a remainder
+abbrev pub slotOf : Shape → List ℕ → ℕ → ℕ
+slotOf s ds r = bitXor (bitAnd (r / 2 ^ s .shift) (s .slots)) (getD ds (bitAnd r (s .index)) 0)
+
+-- a remainder owns its slot
+unfoldable pub lets : Shape → List ℕ → List ℕ → ℕ → Bool
+lets s ds os r = eqb (getD os (slotOf s ds r) 0) (bitAnd r (s .low))
+
+-- one of the two remainders of place k does
+unfoldable pub letIn : Shape → List ℕ → List ℕ → List ℕ → List ℕ → ℕ → Bool
+letIn s ds os crcs others k = lets s ds os (getD crcs (laneOf k) 0) || lets s ds os (getD others (laneOf k) 0)
+
+-- each remainder has a slot
+pub record Shaped (s : Shape) (ds os : List ℕ) : Type 0 where
+  pub small : s .shift < 32
+  pub few : s .index < length ds
+  pub bits : ℕ
+  pub width : s .slots < 2 ^ bits
+  pub near : (i : ℕ) → i < length ds → getD ds i 0 < 2 ^ bits
+  pub many : 2 ^ bits ≤ length os
+  pub room : 2 ^ bits ≤ 65536
+
+pub record Owners (level : ℕ) (s : Shape) (ds os : List ℕ) : Type 0 where
+  pub shaped : Shaped s ds os
+  pub there : (ρ : Repairs) → Proper 14 ρ → 1 ≤ count ρ → count ρ ≤ level
+      → getD os (slotOf s ds (pattern 14 ρ)) 0 ≡ bitAnd (pattern 14 ρ) (s .low)
+
+-- what is asked in place of a remainder: nothing clears 2^24
+unfoldable pub asks : Shape → List ℕ → List ℕ → ℕ → ℕ
+asks s ds os r = cond (lets s ds os r) r (cond (eqb r 0) 0 (2 ^ 24))
+
+-- the first n places are below 248
+pub record Within (through : List ℕ) (n : ℕ) : Type 0 where
+  pub each : (m : ℕ) → m < n → getD through m 0 < 248
+
+-- what is asked for the first n places, two for each
+pub record Gathered (s : Shape) (ds os crcs others through asked : List ℕ) (n : ℕ) : Type 0 where
+  pub size : length asked ≡ 496
+  pub first : (m : ℕ) → m < n → getD asked (2 * m) 0 ≡ asks s ds os (getD crcs (laneOf (getD through m 0)) 0)
+  pub second : (m : ℕ) → m < n → getD asked (2 * m + 1) 0 ≡ asks s ds os (getD others (laneOf (getD through m 0)) 0)
+
+-- of the first n places those with a code of at least one position, and their codes
+unfoldable pub taken : List ℕ → ℕ → Bool
+taken told m = ltb (getD told (2 * m) 0) 65535 || ltb (getD told (2 * m + 1) 0) 65535
+
+unfoldable pub picked : List ℕ → List ℕ → ℕ → List ℕ
+picked through told zero = []
+picked through told (suc m) = cond (taken told m) (picked through told m ++ (getD through m 0 ∷ [])) (picked through told m)
+
+unfoldable pub pickedCodes : List ℕ → ℕ → List ℕ
+pickedCodes told zero = []
+pickedCodes told (suc m) =
+    cond (taken told m) (pickedCodes told m ++ (getD told (2 * m) 0 ∷ getD told (2 * m + 1) 0 ∷ [])) (pickedCodes told m)
+
+-- how many, the list, the codes
+unfoldable pub keptIn : List ℕ → List ℕ → ℕ → List ℕ → List ℕ → ℕ × List ℕ × List ℕ
+keptIn through told n list codes =
+    (length (picked through told n), onto (picked through told n) list, onto (pickedCodes told n) codes)

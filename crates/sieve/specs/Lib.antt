@@ -1,0 +1,2 @@
+pub mod Repairable
+pub mod Inner

@@ -1,0 +1,96 @@
+// The list of the places that a lent hash lets through, in the order of the search, and what is to be asked for them.
+ghost use mathlib.Core.Path.{_≡_};
+ghost use Prim.Native.Nat.{_≤_};
+ghost use lib.ListN.{length, take};
+ghost use Rattle.lists.specs.Bits.{asBit};
+ghost use Rattle.scan.specs.Sieve.{kept, laneOf};
+ghost use Rattle.sieve.specs.Inner.{Shaped, lets, letIn, asks, Within, Gathered};
+
+// Which bits of a remainder choose the displacement, which the slot, and which are the owner's.
+pub struct Shape {
+    pub index: u32,
+    pub shift: u32,
+    pub slots: u32,
+    pub low: u32,
+}
+
+// Whether a remainder owns its slot.
+fn owned(shape: Shape, displacements: &[u8], owners: &[u16], crc: u32) -> usize
+    requires { ⌜ Shaped shape (now displacements) (now owners) ⌝ }
+    ensures { λ r. ⌜ r ≡ asBit (lets shape (now (displacements .entry)) (now (owners .entry)) crc) ⌝ }
+{
+    let displacement = displacements[(crc & shape.index) as usize] as u32;
+    let slot = ((crc >> shape.shift) & shape.slots) ^ displacement;
+    if owners[slot as usize] as u32 == crc & shape.low {
+        1
+    } else {
+        0
+    }
+}
+
+// The places of which a remainder does: as many as the answer says, from the front on. Each number is stored, and stays where it counts.
+pub fn list_in(
+    shape: Shape,
+    displacements: &[u8],
+    owners: &[u16],
+    crcs: &[u32],
+    others: &[u32],
+    list: &mut [u8],
+) -> usize
+    requires { ⌜ Shaped shape (now displacements) (now owners) × (length (now crcs) ≡ 248) × (length (now others) ≡ 248) × (length (now list) ≡ 256) ⌝ }
+    ensures { λ r. ⌜ (r ≤ 248) × (take r (now (list .exit)) ≡ kept (letIn shape (now (displacements .entry)) (now (owners .entry)) (now (crcs .entry)) (now (others .entry))) 248) ⌝ }
+{
+    let mut count: usize = 0;
+    for o in 0..31 {
+        for k in 0..8 {
+            let i = 8 * o + 4 * (k % 2) + k / 2;
+            list[count] = (8 * o + k) as u8;
+            count += owned(shape, displacements, owners, crcs[i])
+                | owned(shape, displacements, owners, others[i]);
+        }
+    }
+    count
+}
+
+// What is asked in place of a remainder: one that is not let through, and is not 0, is not worth a search.
+fn ask(shape: Shape, displacements: &[u8], owners: &[u16], crc: u32) -> u32
+    requires { ⌜ Shaped shape (now displacements) (now owners) ⌝ }
+    ensures { λ r. ⌜ r ≡ asks shape (now (displacements .entry)) (now (owners .entry)) crc ⌝ }
+{
+    if owned(shape, displacements, owners, crc) == 1 {
+        return crc;
+    }
+    if crc == 0 {
+        return 0;
+    }
+    0x1000000
+}
+
+// Where the remainder of a place stands.
+fn lane(k: u8) -> usize
+    ensures { λ r. ⌜ r ≡ laneOf k ⌝ }
+{
+    let place = k as usize;
+    8 * (place / 8) + 4 * (place % 8 % 2) + place % 8 / 2
+}
+
+// What is asked for the first places of a list, two for each.
+pub fn gather(
+    shape: Shape,
+    displacements: &[u8],
+    owners: &[u16],
+    crcs: &[u32],
+    others: &[u32],
+    list: &[u8],
+    count: usize,
+    asked: &mut [u32],
+)
+    requires { ⌜ Shaped shape (now displacements) (now owners) × (length (now crcs) ≡ 248) × (length (now others) ≡ 248) × (length (now list) ≡ 256) × (count ≤ 248) × Within (now list) count × (length (now asked) ≡ 496) ⌝ }
+    ensures { λ _. ⌜ Gathered shape (now (displacements .entry)) (now (owners .entry)) (now (crcs .entry)) (now (others .entry)) (now (list .entry)) (now (asked .exit)) count ⌝ }
+{
+    for m in 0..count {
+        let i = lane(list[m]);
+        asked[2 * m] = ask(shape, displacements, owners, crcs[i]);
+        asked[2 * m + 1] = ask(shape, displacements, owners, others[i]);
+    }
+}

@@ -20,7 +20,7 @@ use Rattle.annex10.specs.declared.Found.the-variants.{At, Nothing}
 use Rattle.annex10.proofs.Positions.{proper-inside}
 use Rattle.annex10.proofs.Unique.{apart-14}
 use Rattle.annex10.proofs.UpTo.{up-to-found, only-up-to, up-to-zero}
-use Rattle.repairs.specs.Codes.{codeUpTo}
+use Rattle.repairs.specs.Codes.{codeUpTo, codesUpTo, codesUpToInto}
 use Rattle.hash.specs.Inner.{foundOf}
 use Rattle.hash.proofs.Owning.{code-back}
 use Rattle.scan.specs.Sieve.{kept, laneOf, onto}
@@ -28,7 +28,7 @@ use Rattle.sieve.specs.declared.Listed.{Listed}
 use Rattle.sieve.specs.Repairable.{repairableAt, repairablePlaces, codePairs, repairableIn, repairableInto}
 use Rattle.sieve.proofs.Clears.{not-listed}
 use Rattle.scan.proofs.Starting.{crc-start}
-use Rattle.lists.specs.From.{tabulate}
+use Rattle.lists.specs.From.{from, tabulate}
 use Rattle.lists.proofs.Members.{member-of}
 use Rattle.place.specs.declared.Slicer.the-variants.{Coherent, Noncoherent}
 use Rattle.place.specs.All.{placeAt}
@@ -69,6 +69,23 @@ module _ (level r : ℕ) where
         each = λ n l. ap (λ (o : Found). only o n) q ∙ only-up-to 14 r apart-14 level n l;
         lies = ap foundInside q ∙ lies-inside (clearingUpTo 14 level r) refl;
       }
+
+-- the codes of two remainders
+pub two-codes : (level x y : ℕ) (codes : List ℕ) {n : ℕ} {out : List ℕ} → length codes ≡ 2 → level ≤ 2
+    → _≡_ {A = ℕ × List ℕ} (n, out) (codesUpToInto level (x ∷ y ∷ []) codes) → out ≡ codeUpTo level x ∷ codeUpTo level y ∷ []
+unfolding codesUpToInto codesUpTo tabulate from
+two-codes level x y codes h l e = ap (λ (z : ℕ × List ℕ). z .1) (simp (eq-eqb _ _ h, le-leb _ _ l) at e)
+
+-- what clears the two remainders at a place, asked for alone
+pub record Asked (level : ℕ) (crcs others codes : List ℕ) (j : ℕ) : Type 0 where
+  pub first : Finds level (getD crcs j 0) (foundBy (getD crcs j 0) (getD codes 0 0))
+  pub second : Finds level (getD others j 0) (foundBy (getD others j 0) (getD codes 1 0))
+
+pub both-asked : {samples : List Float} {coherent noncoherent crcs others : List ℕ} → Scanned samples coherent noncoherent crcs others
+    → (level i j : ℕ) {codes : List ℕ} → i ≡ j → codes ≡ codeUpTo level (getD crcs i 0) ∷ codeUpTo level (getD others i 0) ∷ []
+    → Asked level crcs others codes j
+both-asked {crcs = crcs} {others = others} w level i j z e =
+    rw (e, z) (record { first = code-finds level (getD crcs j 0); second = code-finds level (getD others j 0) })
 
 -- ---- the codes of the places
 

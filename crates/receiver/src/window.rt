@@ -67,7 +67,14 @@ fn best_listed(
 }
 
 // The best without repairs.
-fn exact_best(samples: &[f32], coherent: &[u8], noncoherent: &[u8], crcs: &[u32], others: &[u32], s: Settings) -> Survivor
+fn exact_best(
+    samples: &[f32],
+    coherent: &[u8],
+    noncoherent: &[u8],
+    crcs: &[u32],
+    others: &[u32],
+    s: Settings,
+) -> Survivor
     requires { ⌜ Scanned (now samples) (now coherent) (now noncoherent) (now crcs) (now others) × (settingsNumber s ≡ 0) ⌝ }
     ensures { λ r. ⌜ r ≡ survivorOf (best long (atLevel 0 s) (windowOf 14 (now (samples .entry)))) ⌝ }
 {
@@ -93,7 +100,14 @@ fn exact_best(samples: &[f32], coherent: &[u8], noncoherent: &[u8], crcs: &[u32]
 }
 
 // The best with repairs, where there is none without.
-fn repaired_best(samples: &[f32], coherent: &[u8], noncoherent: &[u8], crcs: &[u32], others: &[u32], s: Settings) -> Survivor
+fn repaired_best(
+    samples: &[f32],
+    coherent: &[u8],
+    noncoherent: &[u8],
+    crcs: &[u32],
+    others: &[u32],
+    s: Settings,
+) -> Survivor
     requires { ⌜ Scanned (now samples) (now coherent) (now noncoherent) (now crcs) (now others) × (settingsNumber s ≡ 0) × (best long (atLevel 0 s) (windowOf 14 (now samples)) ≡ none) ⌝ }
     ensures { λ r. ⌜ r ≡ survivorOf (best long s (windowOf 14 (now (samples .entry)))) ⌝ }
 {
@@ -114,7 +128,14 @@ fn repaired_best(samples: &[f32], coherent: &[u8], noncoherent: &[u8], crcs: &[u
 }
 
 // What needs no repair comes first: where there is such a reading, no table is asked.
-fn in_stages(samples: &[f32], coherent: &[u8], noncoherent: &[u8], crcs: &[u32], others: &[u32], s: Settings) -> Survivor
+fn in_stages(
+    samples: &[f32],
+    coherent: &[u8],
+    noncoherent: &[u8],
+    crcs: &[u32],
+    others: &[u32],
+    s: Settings,
+) -> Survivor
     requires { ⌜ Scanned (now samples) (now coherent) (now noncoherent) (now crcs) (now others) × (settingsNumber s ≡ 0) ⌝ }
     ensures { λ r. ⌜ r ≡ survivorOf (best long s (windowOf 14 (now (samples .entry)))) ⌝ }
 {
@@ -137,7 +158,13 @@ pub fn best_of(samples: &[f32], s: Settings) -> Survivor
     let mut noncoherent = [0u8; 1152];
     let mut crcs = [0u32; 248];
     let mut others = [0u32; 248];
-    scan(samples, &mut coherent, &mut noncoherent, &mut crcs, &mut others);
+    scan(
+        samples,
+        &mut coherent,
+        &mut noncoherent,
+        &mut crcs,
+        &mut others,
+    );
     in_stages(samples, &coherent, &noncoherent, &crcs, &others, s)
 }
 
@@ -150,7 +177,13 @@ pub fn reading_at(samples: &[f32], s: Settings, place: Place) -> Survivor
     let mut noncoherent = [0u8; 1152];
     let mut crcs = [0u32; 248];
     let mut others = [0u32; 248];
-    scan(samples, &mut coherent, &mut noncoherent, &mut crcs, &mut others);
+    scan(
+        samples,
+        &mut coherent,
+        &mut noncoherent,
+        &mut crcs,
+        &mut others,
+    );
     let i = 8 * place.bit + 4 * place.symbol + place.phase - 8;
     let both = [crcs[i], others[i]];
     let mut codes = [0u32; 2];

@@ -124,7 +124,7 @@ loop-again c =
     let f = candidateAt long (s .args .s) (windowOf 14 (s .args .samples .now)) in (
       omega arith,
       found-more f (s .args .list .now) (l .q) (omega (arith, s .pre .1 .few, s .pre .1 .places)) (l .inv .1)
-      (c .before .read-at .ensures ∙ ap (λ (p : Place). survivorOf (f p)) (c .before .before .place-at .ensures)) (c .choose .ensures),
+          (c .before .read-at .ensures ∙ ap (λ (p : Place). survivorOf (f p)) (c .before .before .place-at .ensures)) (c .choose .ensures),
     )
 
 -- src/find.rt:86:1

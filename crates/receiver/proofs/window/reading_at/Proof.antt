@@ -1,3 +1,14 @@
+-- `receiver::window::reading_at` meets its contract: the window is scanned, and what clears the two messages is asked of the tables.
+-- Assumes nothing.
+use mathlib.Core.Path.{_≡_, refl}
+use Prim.Native.Nat.{_+_, _-_, _*_}
+use native.Mathlib.Omega.{arith}
+use lib.ListN.{replicate}
+use Rattle.place.specs.Step.{sampleStart}
+use Rattle.place.proofs.Within.{listed-gives}
+use Rattle.receiver.proofs.Weighing.{level-low}
+use Rattle.receiver.proofs.Finding.{scan-done}
+use Rattle.receiver.proofs.Repaired.{two-codes, both-asked}
 use borrow.Author.Needs.{needs}
 use Rattle.receiver.proofs.window.reading_at.Statement.{statement}
 use Rattle.receiver.proofs.window.reading_at.Tie as tie
@@ -30,39 +41,39 @@ scan-requires c κs = search needs
 
 -- src/window.rt:154:13
 mul-i : tie.Need-mul-i
-mul-i c = ?
+mul-i c = let s = c .before .before .before .before .before .before .before .before .before .before .before in let l = listed-gives 31 (s .args .place) (s .pre .1) in omega (arith, l .from, l .to, l .phase, l .symbol)
 
 -- src/window.rt:154:29
 mul-i-2 : tie.Need-mul-i-2
-mul-i-2 c = ?
+mul-i-2 c = let s = c .before .before .before .before .before .before .before .before .before .before .before .before in let l = listed-gives 31 (s .args .place) (s .pre .1) in omega (arith, l .from, l .to, l .phase, l .symbol)
 
 -- src/window.rt:154:13
 add-i : tie.Need-add-i
-add-i c = ?
+add-i c = let s = c .before .before .before .before .before .before .before .before .before .before .before .before in let l = listed-gives 31 (s .args .place) (s .pre .1) in omega (arith, l .from, l .to, l .phase, l .symbol)
 
 -- src/window.rt:154:13
 add-i-2 : tie.Need-add-i-2
-add-i-2 c = ?
+add-i-2 c = let s = c .before .before .before .before .before .before .before .before .before .before .before .before .before in let l = listed-gives 31 (s .args .place) (s .pre .1) in omega (arith, l .from, l .to, l .phase, l .symbol)
 
 -- src/window.rt:154:13
 sub-i : tie.Need-sub-i
-sub-i c = ?
+sub-i c = let s = c .before .before .before .before .before .before .before .before .before .before .before .before .before in let l = listed-gives 31 (s .args .place) (s .pre .1) in omega (arith, l .from, l .to, l .phase, l .symbol)
 
 -- src/window.rt:155:17
 mul-read-at : tie.Need-mul-read-at
-mul-read-at c = ?
+mul-read-at c = let s = c .before .before .before .before .before .before .before .before .before .before .before .before .before in let l = listed-gives 31 (s .args .place) (s .pre .1) in omega (arith, l .from, l .to, l .phase, l .symbol)
 
 -- src/window.rt:155:17
 array-read-read-at : tie.Need-array-read-read-at
-array-read-read-at c = ?
+array-read-read-at c = let s = c .before .before .before .before .before .before .before .before .before .before .before .before .before in let l = listed-gives 31 (s .args .place) (s .pre .1) in omega (arith, l .from, l .to, l .phase, l .symbol)
 
 -- src/window.rt:155:26
 mul-read-at-2 : tie.Need-mul-read-at-2
-mul-read-at-2 c = ?
+mul-read-at-2 c = let s = c .before .before .before .before .before .before .before .before .before .before .before .before .before in let l = listed-gives 31 (s .args .place) (s .pre .1) in omega (arith, l .from, l .to, l .phase, l .symbol)
 
 -- src/window.rt:155:26
 array-read-read-at-2 : tie.Need-array-read-read-at-2
-array-read-read-at-2 c = ?
+array-read-read-at-2 c = let s = c .before .before .before .before .before .before .before .before .before .before .before .before .before in let l = listed-gives 31 (s .args .place) (s .pre .1) in omega (arith, l .from, l .to, l .phase, l .symbol)
 
 -- src/window.rt:157:37
 slice-aggregate-bit-errors-from-crc24s : tie.Need-slice-aggregate-bit-errors-from-crc24s
@@ -110,7 +121,21 @@ array-read-read-at-4 c = search needs
 
 -- src/window.rt:159:5
 read-at-requires : tie.Need-read-at-requires
-read-at-requires c κs = ?
+read-at-requires c κs =
+    let s = c .before .before .before .before .before .before .before .before .before .before .before .before .before .before .before .before .before .before .before .before .before .before .before in
+    let p = s .args .place in
+    let level = s .args .s .level in
+    let i = 8 * p .bit + 4 * p .symbol + p .phase - 8 in
+    let z : i ≡ sampleStart p - 8 = omega arith in
+    let w = scan-done _ _ _ _ _ (s .pre .0) refl refl refl refl (c .before .before .before .before .before .before .before .before .before .before .before .before .before .before .before .before .before .scan .ensures) in
+    let e = two-codes level _ _ (replicate 2 0) refl (level-low (s .args .s) (s .pre .2)) (c .before .before .before .before .before .before .before .bit-errors-from-crc24s .ensures) in
+    let k = both-asked w level i (sampleStart p - 8) z e in (
+      record { scanned = w; sums = c .before .before .before .before .before .symbols-of .ensures },
+      s .pre .1,
+      s .pre .2,
+      k .first,
+      k .second,
+    )
 
 -- src/window.rt:145:1
 returns : tie.Need-returns

@@ -1,15 +1,10 @@
--- `sieve::find_repairable` meets its contract: the tests of the constant tables are computed here.
--- Assumes nothing.
+-- `sieve::find_repairable` meets its contract. Assumes nothing.
 use borrow.Author.Needs.{needs}
 use borrow.Author.Tests.{eq-eqb, ne-eqb, lt-leb}
+use mathlib.Core.Path.{refl}
 use native.Mathlib.Omega.{arith}
-use mathlib.Core.Path.{_≡_, refl}
 use denote.Ref.{now}
-use Rattle.lists.proofs.Tree.{grow}
-use Rattle.annex10.proofs.Singles.{singles, singlesFrom}
 use Rattle.sieve.specs.Repairable.{repairableInto}
-use Rattle.sieve.proofs.Placed.{read, stands}
-use Rattle.sieve.proofs.Owning.{below-n, owns, single-owns, pair-owns, pairs-own, all-own, sizes, owner-rule, owner-law}
 use Rattle.sieve.proofs.Picking.{level-zero, into-done}
 use Rattle.sieve.proofs.find_repairable.Statement.{statement}
 use Rattle.sieve.proofs.find_repairable.Tie as tie
@@ -41,17 +36,8 @@ returns-6 c =
     (c .before .before .before .before .before .if1 .left) (c .before .before .before .before .if2 .left) (c .before .before .before .if3 .left) (c .before .before .if4 .left)
     (c .if6 .taken) (omega arith) (level-zero _ _ _ _)
 
-slice-aggregate-find-in : tie.Need-slice-aggregate-find-in
-slice-aggregate-find-in c = search needs
-
-slice-aggregate-find-in-2 : tie.Need-slice-aggregate-find-in-2
-slice-aggregate-find-in-2 c = search needs
-
-find-in-requires : tie.Need-find-in-requires
-unfolding owner-rule sizes below-n read stands owns single-owns pair-owns pairs-own all-own grow singles singlesFrom
-find-in-requires c κs =
-    let e : c .before .before .before .before .before .before .before .before .before .before .before .before .before .before .before .args .level ≡ 1 = c .before .before .before .before .if7 .taken in
-    (omega arith, rw e (owner-law 1 16 7 8 _ _ tt), c .before .before .before .before .before .before .before .before .before .before .if1 .left, c .before .before .before .before .before .before .before .before .before .if2 .left, c .before .before .before .before .before .before .before .before .if3 .left, c .before .before .before .before .before .before .before .if4 .left)
+find-one-requires : tie.Need-find-one-requires
+find-one-requires c κs = search needs
 
 same-length : tie.Need-same-length
 same-length c = search needs
@@ -61,22 +47,13 @@ same-length-2 c = search needs
 
 returns-7 : tie.Need-returns-7
 returns-7 c =
-    let a = c .before .before .before .before .before .before .before .before .before .before .before .before .before .before .before .before .before .before .before .before .args in
+    let a = c .before .before .before .before .before .before .before .before .before .before .before .before .before .before .before .before .before .before .args in
     into-done (a .level) (a .level) (now (a .crcs)) (now (a .others)) (now (a .list)) (now (a .codes)) _ _ _
-    (c .before .before .before .before .before .before .before .before .before .before .before .before .before .before .before .if1 .left) (c .before .before .before .before .before .before .before .before .before .before .before .before .before .before .if2 .left) (c .before .before .before .before .before .before .before .before .before .before .before .before .before .if3 .left) (c .before .before .before .before .before .before .before .before .before .before .before .before .if4 .left)
-    refl (omega arith) (c .before .before .before .before .find-in .ensures)
+    (c .before .before .before .before .before .before .before .before .before .before .before .before .before .if1 .left) (c .before .before .before .before .before .before .before .before .before .before .before .before .if2 .left) (c .before .before .before .before .before .before .before .before .before .before .before .if3 .left) (c .before .before .before .before .before .before .before .before .before .before .if4 .left)
+    refl (omega arith) (c .before .before .before .before .find-one .ensures)
 
-slice-aggregate-find-in-3 : tie.Need-slice-aggregate-find-in-3
-slice-aggregate-find-in-3 c = search needs
-
-slice-aggregate-find-in-4 : tie.Need-slice-aggregate-find-in-4
-slice-aggregate-find-in-4 c = search needs
-
-find-in-requires-2 : tie.Need-find-in-requires-2
-unfolding owner-rule sizes below-n read stands owns single-owns pair-owns pairs-own all-own grow singles singlesFrom
-find-in-requires-2 c κs =
-    let e : c .before .before .before .before .before .before .before .before .before .before .before .before .before .before .before .args .level ≡ 2 = omega (arith, c .before .before .before .before .before .before .if5 .left, c .before .before .before .before .before .if6 .left, c .before .before .before .before .if7 .left) in
-    (omega arith, rw e (owner-law 2 11 11 13 _ _ tt), c .before .before .before .before .before .before .before .before .before .before .if1 .left, c .before .before .before .before .before .before .before .before .before .if2 .left, c .before .before .before .before .before .before .before .before .if3 .left, c .before .before .before .before .before .before .before .if4 .left)
+find-two-requires : tie.Need-find-two-requires
+find-two-requires c κs = search needs
 
 same-length-3 : tie.Need-same-length-3
 same-length-3 c = search needs
@@ -86,10 +63,10 @@ same-length-4 c = search needs
 
 returns-8 : tie.Need-returns-8
 returns-8 c =
-    let a = c .before .before .before .before .before .before .before .before .before .before .before .before .before .before .before .before .before .before .before .before .args in
+    let a = c .before .before .before .before .before .before .before .before .before .before .before .before .before .before .before .before .before .before .args in
     into-done (a .level) (a .level) (now (a .crcs)) (now (a .others)) (now (a .list)) (now (a .codes)) _ _ _
-    (c .before .before .before .before .before .before .before .before .before .before .before .before .before .before .before .if1 .left) (c .before .before .before .before .before .before .before .before .before .before .before .before .before .before .if2 .left) (c .before .before .before .before .before .before .before .before .before .before .before .before .before .if3 .left) (c .before .before .before .before .before .before .before .before .before .before .before .before .if4 .left)
-    refl (omega arith) (c .before .before .before .before .find-in2 .ensures)
+    (c .before .before .before .before .before .before .before .before .before .before .before .before .before .if1 .left) (c .before .before .before .before .before .before .before .before .before .before .before .before .if2 .left) (c .before .before .before .before .before .before .before .before .before .before .before .if3 .left) (c .before .before .before .before .before .before .before .before .before .before .if4 .left)
+    refl (omega arith) (c .before .before .before .before .find-two .ensures)
 
 pub find-repairable-spec : {M : Type 1} → statement M
 find-repairable-spec =
@@ -101,15 +78,11 @@ find-repairable-spec =
     returns-4
     returns-5
     returns-6
-    slice-aggregate-find-in
-    slice-aggregate-find-in-2
-    find-in-requires
+    find-one-requires
     same-length
     same-length-2
     returns-7
-    slice-aggregate-find-in-3
-    slice-aggregate-find-in-4
-    find-in-requires-2
+    find-two-requires
     same-length-3
     same-length-4
     returns-8)

@@ -1,14 +1,10 @@
--- `repairs::rows::bit_errors_from_crc24s` meets its contract: the tests of the constant tables are computed here.
--- Assumes nothing.
+-- `repairs::rows::bit_errors_from_crc24s` meets its contract. Assumes nothing.
 use borrow.Author.Needs.{needs}
 use borrow.Author.Tests.{eq-eqb, ne-eqb, lt-leb}
 use mathlib.Core.Path.{sym, _∙_}
 use native.Mathlib.Omega.{arith}
 use denote.Ref.{now}
-use Rattle.lists.proofs.Tree.{grow}
-use Rattle.annex10.proofs.Singles.{singles, singlesFrom}
 use Rattle.repairs.specs.Codes.{codesUpToInto}
-use Rattle.repairs.proofs.Rules.{single-rule, single-right, single-has, has, single-law, double-rule, rising, double-right, double-has, pair-has, double-law}
 use Rattle.repairs.proofs.Coding.{into-done}
 use Rattle.repairs.proofs.rows.bit_errors_from_crc24s.Statement.{statement}
 use Rattle.repairs.proofs.rows.bit_errors_from_crc24s.Tie as tie
@@ -30,48 +26,41 @@ same-length c = search needs
 returns-3 : tie.Need-returns-3
 returns-3 c =
     let a = c .before .before .before .before .before .before .before .before .before .args in
-    into-done (a .level) 0 (now (a .crcs)) (now (a .codes)) _ (c .before .before .before .before .before .before .if1 .left) (c .before .before .before .before .if3 .taken) (omega arith) (c .before .before .exact .ensures)
+    into-done (a .level) 0 (now (a .crcs)) (now (a .codes)) _ (c .before .before .before .before .before .before .if1 .left) (c .before .before .before .before .if3 .taken) (omega arith)
+    (c .before .before .exact .ensures)
 
-slice-aggregate-singles-in : tie.Need-slice-aggregate-singles-in
-slice-aggregate-singles-in c = search needs
-
-singles-in-requires : tie.Need-singles-in-requires
-unfolding single-rule rising single-right single-has has singles singlesFrom
-singles-in-requires c κs = (single-law _ tt, c .before .before .before .before .if1 .left)
+singles-requires : tie.Need-singles-requires
+singles-requires c κs = search needs
 
 same-length-2 : tie.Need-same-length-2
 same-length-2 c = search needs
 
 returns-4 : tie.Need-returns-4
 returns-4 c =
-    let a = c .before .before .before .before .before .before .before .before .before .before .before .args in
-    into-done (a .level) 1 (now (a .crcs)) (now (a .codes)) _ (c .before .before .before .before .before .before .before .before .if1 .left) (c .if4 .taken) (omega arith) (c .before .before .before .singles-in .ensures .0)
+    let a = c .before .before .before .before .before .before .before .before .before .before .args in
+    into-done (a .level) 1 (now (a .crcs)) (now (a .codes)) _ (c .before .before .before .before .before .before .before .if1 .left) (c .if4 .taken) (omega arith)
+    (c .before .before .before .singles .ensures .0)
 
 same-length-3 : tie.Need-same-length-3
 same-length-3 c = search needs
 
 returns-5 : tie.Need-returns-5
 returns-5 c =
-    let a = c .before .before .before .before .before .before .before .before .before .before .before .before .args in
-    into-done (a .level) 2 (now (a .crcs)) (now (a .codes)) _ (c .before .before .before .before .before .before .before .before .before .if1 .left) (omega (arith, c .before .before .before .before .before .before .before .before .if2 .left, c .before .before .before .before .before .before .before .if3 .left, c .before .if4 .left)) (omega arith) (c .before .before .before .before .singles-in .ensures .0 ∙ sym (c .before .before .before .before .singles-in .ensures .1 .same (c .if5 .taken)))
+    let a = c .before .before .before .before .before .before .before .before .before .before .before .args in
+    into-done (a .level) 2 (now (a .crcs)) (now (a .codes)) _ (c .before .before .before .before .before .before .before .before .if1 .left) (omega (arith, c .before .before .before .before .before .before .before .if2 .left, c .before .before .before .before .before .before .if3 .left, c .before .if4 .left)) (omega arith)
+    (c .before .before .before .before .singles .ensures .0 ∙ sym (c .before .before .before .before .singles .ensures .1 .same (c .if5 .taken)))
 
-slice-aggregate-doubles-in : tie.Need-slice-aggregate-doubles-in
-slice-aggregate-doubles-in c = search needs
-
-slice-aggregate-doubles-in-2 : tie.Need-slice-aggregate-doubles-in-2
-slice-aggregate-doubles-in-2 c = search needs
-
-doubles-in-requires : tie.Need-doubles-in-requires
-unfolding double-rule rising double-right double-has pair-has grow singles singlesFrom
-doubles-in-requires c κs = (double-law _ _ tt, c .before .before .before .before .before .before .before .singles-in .ensures .0)
+doubles-requires : tie.Need-doubles-requires
+doubles-requires c κs = search needs
 
 same-length-4 : tie.Need-same-length-4
 same-length-4 c = search needs
 
 returns-6 : tie.Need-returns-6
 returns-6 c =
-    let a = c .before .before .before .before .before .before .before .before .before .before .before .before .before .before .before .before .before .before .args in
-    into-done (a .level) 2 (now (a .crcs)) (now (a .codes)) _ (c .before .before .before .before .before .before .before .before .before .before .before .before .before .before .before .if1 .left) (omega (arith, c .before .before .before .before .before .before .before .before .before .before .before .before .before .before .if2 .left, c .before .before .before .before .before .before .before .before .before .before .before .before .before .if3 .left, c .before .before .before .before .before .before .before .if4 .left)) (omega arith) (c .before .before .doubles-in .ensures)
+    let a = c .before .before .before .before .before .before .before .before .before .before .before .before .before .before .before .args in
+    into-done (a .level) 2 (now (a .crcs)) (now (a .codes)) _ (c .before .before .before .before .before .before .before .before .before .before .before .before .if1 .left) (omega (arith, c .before .before .before .before .before .before .before .before .before .before .before .if2 .left, c .before .before .before .before .before .before .before .before .before .before .if3 .left, c .before .before .before .before .before .if4 .left)) (omega arith)
+    (c .before .before .doubles .ensures)
 
 pub bit-errors-from-crc24s-spec : {M : Type 1} → statement M
 bit-errors-from-crc24s-spec =
@@ -82,14 +71,11 @@ bit-errors-from-crc24s-spec =
     exact-requires
     same-length
     returns-3
-    slice-aggregate-singles-in
-    singles-in-requires
+    singles-requires
     same-length-2
     returns-4
     same-length-3
     returns-5
-    slice-aggregate-doubles-in
-    slice-aggregate-doubles-in-2
-    doubles-in-requires
+    doubles-requires
     same-length-4
     returns-6)

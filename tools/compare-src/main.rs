@@ -149,13 +149,13 @@ fn kernels(
     }
 }
 
-/// Every lookup there is: all 2^24 remainders, and some numbers above them. The hash takes as many at once as a window has.
+/// Every lookup there is: all 2^24 remainders, and some numbers above them. A row of them is as long as a window's.
 fn lookups(f: &mut Faults, t: &Tables) {
     let (mut singles, mut doubles) = (0, 0);
     let all: Vec<u32> = (0..1 << 24).chain([1 << 24, u32::MAX]).collect();
     for crcs in all.chunks(496) {
         let mut codes = vec![0; crcs.len()];
-        f.same("hash, its number", u64::from(crcs[0]), proved::codes(crcs, &mut codes), 0);
+        f.same("row of lookups, its number", u64::from(crcs[0]), proved::codes(crcs, &mut codes), 0);
         for (&crc, code) in crcs.iter().zip(codes) {
             let one = oracle_a::single(crc).map_or([0; 4], |j| [1, 1, u32::from(j), 0]);
             let two = oracle_a::double(crc).map_or([0; 4], |(j, k)| [1, 2, u32::from(j), u32::from(k)]);
@@ -168,7 +168,7 @@ fn lookups(f: &mut Faults, t: &Tables) {
                 [0, 0, 1] => two[2] << 8 | two[3],
                 _ => 0x10000,
             };
-            f.same("hash", u64::from(crc), code, wanted);
+            f.same("row of lookups", u64::from(crc), code, wanted);
             if crc < 1 << 24 {
                 let ruled = [1, 2].map(|n| t.clearing(n, crc).map_or([0; 4], |[n, j, k]| [1, n as u32, j as u32, k as u32]));
                 f.same("lookup, by the rules", u64::from(crc), ours, ruled);
@@ -179,7 +179,7 @@ fn lookups(f: &mut Faults, t: &Tables) {
     }
     let mut codes = [0xA5A5; 2];
     let number = proved::codes(&[0], &mut codes);
-    f.same("hash, with a length too many", 0, (number, codes), (3, [0xA5A5; 2]));
+    f.same("row of lookups, with a length too many", 0, (number, codes), (3, [0xA5A5; 2]));
     f.same("how many single and double errors", 0, (singles, doubles), (112, 6216));
     println!("lookups: all 16,777,216 remainders, {singles} single and {doubles} double errors");
 }

@@ -3,7 +3,6 @@ pub mod Carrier
 pub mod Choice
 pub mod Cn0
 pub mod Feed
-pub mod Hash
 pub mod Kernels
 pub mod Khlongrae
 pub mod Listing
@@ -16,6 +15,8 @@ pub mod Place
 pub mod Probes
 pub mod Receiver
 pub mod Repairs
-pub mod Rolling
 pub mod Scan
 pub mod Sieve
+pub mod Streams
+pub mod Timing
+pub mod Words

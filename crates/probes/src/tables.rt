@@ -1,12 +1,12 @@
 // The lookups of one and of two wrong bits, and of at most two for many remainders.
 use annex10::Found;
 use annex10::Repairs;
-use hash::bit_errors_from_crc24s;
 use repairs::double_bit_error_from_crc24;
+use repairs::rows::bit_errors_from_crc24s;
 use repairs::single_bit_error_from_crc24;
 ghost use mathlib.Core.Path.{_≡_};
 ghost use Rattle.annex10.specs.Repair.{clearing};
-ghost use Rattle.hash.specs.Codes.{codesInto};
+ghost use Rattle.repairs.specs.Codes.{codesUpToInto};
 ghost use Rattle.probes.specs.Flat.{flatRepairs, flatFound};
 
 // Zeros where nothing is found.
@@ -73,7 +73,7 @@ pub extern "C" fn probe_double(crc: u32) -> FlatFound
 
 #[no_mangle]
 pub extern "C" fn probe_codes(crcs: &[u32], codes: &mut [u32]) -> u32
-    ensures { λ r. ⌜ (r, now (codes .exit)) ≡ codesInto (now (crcs .entry)) (now (codes .entry)) ⌝ }
+    ensures { λ r. ⌜ (r, now (codes .exit)) ≡ codesUpToInto 2 (now (crcs .entry)) (now (codes .entry)) ⌝ }
 {
-    bit_errors_from_crc24s(crcs, codes)
+    bit_errors_from_crc24s(2, crcs, codes)
 }

@@ -30,10 +30,9 @@ use Rattle.search.specs.Choice.{scan}
 use Rattle.search.specs.Answers.{survivorOf}
 use Rattle.choice.specs.Chosen.{chosenSurvivor}
 use Rattle.choice.proofs.Choosing.{chosen-better}
-use Rattle.hash.specs.Inner.{foundOf}
 use Rattle.scan.specs.Sieve.{kept, laneOf, onto}
 use Rattle.scan.proofs.Starting.{place-start}
-use Rattle.receiver.specs.Inner.{Finds, foundInside, foundBy, Listing, over}
+use Rattle.receiver.specs.Inner.{Finds, foundInside, foundOf, foundBy, over}
 use Rattle.receiver.proofs.Kept.{over-more, scan-kept}
 
 -- ---- the front

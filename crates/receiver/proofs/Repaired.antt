@@ -6,23 +6,24 @@ use mathlib.Core.Path.{_≡_, refl, sym, ap, _∙_}
 use mathlib.Core.Bool.{Bool, true, false}
 use mathlib.Core.List.{List, [], _∷_, _++_}
 use mathlib.Core.Option.{none}
-use Prim.Native.Nat.{ℕ, zero, suc, _+_, _*_, _<_, _≤_}
+use Prim.Native.Nat.{ℕ, zero, suc, _+_, _*_, _/_, _%_, _<_, _≤_}
 use native.Mathlib.Omega.{arith}
-use borrow.Author.Tests.{eq-eqb, le-leb, eqb-true}
+use borrow.Author.Tests.{eq-eqb, ne-eqb, le-leb, lt-leb, eqb-true}
 use lib.Dec.{eqb}
 use lib.ListN.{length, getD, take, drop, length-append, length-drop, List·getD-append}
 use lib.Ieee.{Float}
 use Rattle.annex10.specs.Remainder.{remainder}
 use Rattle.annex10.specs.Any.{only, clearingUpTo}
-use Rattle.annex10.specs.Repair.{clearing}
+use Rattle.annex10.specs.Repair.{Proper, clearing}
+use Rattle.annex10.specs.Codes.{codeOf}
+use Rattle.annex10.specs.declared.Repairs.{Repairs}
+use Rattle.annex10.specs.declared.Repairs.the-variants.{None, One, Two}
 use Rattle.annex10.specs.declared.Found.{Found}
 use Rattle.annex10.specs.declared.Found.the-variants.{At, Nothing}
 use Rattle.annex10.proofs.Positions.{proper-inside}
 use Rattle.annex10.proofs.Unique.{apart-14}
 use Rattle.annex10.proofs.UpTo.{up-to-found, only-up-to, up-to-zero}
 use Rattle.repairs.specs.Codes.{codeUpTo, codesUpTo, codesUpToInto}
-use Rattle.hash.specs.Inner.{foundOf}
-use Rattle.hash.proofs.Owning.{code-back}
 use Rattle.scan.specs.Sieve.{kept, laneOf, onto}
 use Rattle.sieve.specs.declared.Listed.{Listed}
 use Rattle.sieve.specs.Repairable.{repairableAt, repairablePlaces, codePairs, repairableIn, repairableInto}
@@ -41,11 +42,23 @@ use Rattle.search.specs.Seen.{bitsAt, windowOf}
 use Rattle.search.specs.Answers.{survivorOf}
 use Rattle.search.proofs.Scanning.{scan-none}
 use Rattle.search.proofs.Staging.{atLevel, later-none}
-use Rattle.receiver.specs.Inner.{Scanned, Finds, foundInside, foundBy, Listing, over}
+use Rattle.receiver.specs.Inner.{Scanned, Finds, foundInside, repairsOf, foundOf, foundBy, Listing, over}
 use Rattle.receiver.proofs.Finding.{best-is}
 use Rattle.receiver.proofs.Listed.{Front, front-of, searched}
 
 -- ---- what clears a remainder, from its code
+
+code-back : (ρ : Repairs) → Proper 14 ρ → foundOf (codeOf (At ρ)) ≡ At ρ
+unfolding foundOf repairsOf
+code-back None h = refl
+code-back (One j) h =
+    let a : (j * 256 + 255) / 256 ≡ j = omega arith in
+    let b : (j * 256 + 255) % 256 ≡ 255 = omega arith in
+    simp (lt-leb 65536 (j * 256 + 255) (omega arith), a, b, ne-eqb j 255 (λ e. omega arith))
+code-back (Two j k) h =
+    let a : (j * 256 + k) / 256 ≡ j = omega arith in
+    let b : (j * 256 + k) % 256 ≡ k = omega arith in
+    simp (lt-leb 65536 (j * 256 + k) (omega arith), a, b, ne-eqb j 255 (λ e. omega arith), ne-eqb k 255 (λ e. omega arith))
 
 module _ (level r : ℕ) where
   code-says : (o : Found) → clearingUpTo 14 level r ≡ o → foundOf (codeUpTo level r) ≡ o

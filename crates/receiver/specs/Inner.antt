@@ -4,14 +4,15 @@ use mathlib.Core.Path.{_≡_}
 use mathlib.Core.Bool.{Bool, true, not, cond}
 use mathlib.Core.List.{List, [], foldl}
 use mathlib.Core.Option.{Option}
-use Prim.Native.Nat.{ℕ, _+_, _*_, _<_, _≤_}
-use lib.Dec.{eqb}
+use Prim.Native.Nat.{ℕ, _+_, _*_, _/_, _%_, _<_, _≤_}
+use lib.Dec.{eqb, leb}
 use lib.ListN.{length, getD, take, drop}
 use lib.Ieee.{Float}
 use Rattle.annex10.specs.Remainder.{remainder}
 use Rattle.annex10.specs.Any.{only}
 use Rattle.annex10.specs.Repair.{inside, clearing}
-use Rattle.annex10.specs.declared.Repairs.the-variants.{None}
+use Rattle.annex10.specs.declared.Repairs.{Repairs}
+use Rattle.annex10.specs.declared.Repairs.the-variants.{None, One, Two}
 use Rattle.annex10.specs.declared.Found.{Found}
 use Rattle.annex10.specs.declared.Found.the-variants.{At, Nothing}
 use Rattle.place.specs.declared.Place.{Place}
@@ -23,7 +24,7 @@ use Rattle.kernels.specs.Symbols.{symbolsOf}
 use Rattle.kernels.specs.Powers.{powerOf, noiseOf}
 use Rattle.streams.specs.Streams.{messageAt}
 use Rattle.streams.specs.Distances.{differing}
-use Rattle.hash.specs.Inner.{foundOf}
+use Rattle.annex10.specs.Codes.{absent}
 use Rattle.scan.specs.Flat.{bitsFrom, crcsIn}
 use Rattle.scan.specs.Sieve.{laneOf}
 use Rattle.cn0.specs.Estimate.{cn0Of}
@@ -80,6 +81,13 @@ foundInside (At ρ) = inside 14 ρ
 pub record Finds (level r : ℕ) (c : Found) : Type 0 where
   pub each : (n : ℕ) → n ≤ level → only c n ≡ clearing 14 n r
   pub lies : foundInside c ≡ true
+
+-- what a code says: its positions, and what clears
+unfoldable pub repairsOf : ℕ → Repairs
+repairsOf c = cond (eqb (c / 256) absent) None (cond (eqb (c % 256) absent) (One (c / 256)) (Two (c / 256) (c % 256)))
+
+unfoldable pub foundOf : ℕ → Found
+foundOf c = cond (leb 65536 c) Nothing (At (repairsOf c))
 
 -- what clears a remainder, from its code; 0 needs none
 unfoldable pub foundBy : ℕ → ℕ → Found

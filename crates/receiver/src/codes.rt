@@ -2,8 +2,7 @@
 use annex10::Found;
 use annex10::Repairs;
 ghost use mathlib.Core.Path.{_≡_};
-ghost use Rattle.hash.specs.Inner.{foundOf};
-ghost use Rattle.receiver.specs.Inner.{foundBy};
+ghost use Rattle.receiver.specs.Inner.{foundOf, foundBy};
 
 // What a code says.
 fn bit_errors_of(code: u32) -> Found

@@ -3,14 +3,14 @@
 mod find;
 mod keep;
 mod list;
-mod owners;
+mod tables;
 
 use crate::find::find_in;
 use crate::list::Shape;
-use crate::owners::ONE_DISPLACEMENTS;
-use crate::owners::ONE_OWNERS;
-use crate::owners::TWO_DISPLACEMENTS;
-use crate::owners::TWO_OWNERS;
+use crate::tables::ONE_DISPLACEMENTS;
+use crate::tables::ONE_OWNERS;
+use crate::tables::TWO_DISPLACEMENTS;
+use crate::tables::TWO_OWNERS;
 ghost use mathlib.Core.Path.{_≡_};
 ghost use lib.ListN.{length};
 ghost use Rattle.sieve.specs.Repairable.{repairableIn, repairableInto};

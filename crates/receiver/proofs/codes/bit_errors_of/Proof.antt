@@ -3,7 +3,7 @@ use native.Mathlib.Omega.{arith}
 use lib.Bits.{mask-lt, and-mask}
 use borrow.Author.Needs.{needs}
 use borrow.Author.Tests.{eq-eqb, ne-eqb, le-leb, lt-leb}
-use Rattle.hash.specs.Inner.{repairsOf, foundOf}
+use Rattle.receiver.specs.Inner.{repairsOf, foundOf}
 use Rattle.receiver.proofs.codes.bit_errors_of.Statement.{statement}
 use Rattle.receiver.proofs.codes.bit_errors_of.Tie as tie
 

@@ -1,3 +1,0 @@
-pub mod Placed
-pub mod Hashing
-pub mod Owning

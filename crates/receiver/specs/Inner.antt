@@ -32,6 +32,7 @@ use Rattle.timing.specs.declared.Offset.{Offset}
 use Rattle.search.specs.declared.Tried.{Tried}
 use Rattle.search.specs.declared.Tried.the-variants.{Pass, Fail}
 use Rattle.search.specs.declared.Candidate.{Candidate}
+use Rattle.search.specs.declared.Survivor.{Survivor}
 use Rattle.search.specs.declared.Prompt.{Prompt}
 use Rattle.search.specs.declared.Arrival.{Arrival}
 use Rattle.search.specs.Window.{Window}
@@ -61,6 +62,11 @@ pub record Scanned (samples : List Float) (coherent noncoherent crcs others : Li
 pub record Ready (samples symbols : List Float) (coherent noncoherent crcs others : List ℕ) : Type 0 where
   pub scanned : Scanned samples coherent noncoherent crcs others
   pub sums : symbols ≡ symbolsOf samples
+
+-- symbols that are made where something is found
+pub record Sums (samples : List Float) (x : Survivor) (symbols : List Float) : Type 0 where
+  pub size : length symbols ≡ 2304
+  pub made : x .number ≡ 0 → symbols ≡ symbolsOf samples
 
 -- the best of some places, given by their numbers, held on from h
 unfoldable pub over : (Place → Option Candidate) → (ℕ → Place) → Option Candidate → List ℕ → Option Candidate

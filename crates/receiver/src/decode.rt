@@ -94,7 +94,8 @@ pub fn find_best_decode_candidate(samples: &[f32], s: Settings) -> Survivor
     if number != 0 {
         return unread(number);
     }
-    best_of(samples, s)
+    let mut symbols = [0.0f32; 2304];
+    best_of(samples, &mut symbols, s)
 }
 
 // When a message at one of the 248 places came. Refused: 2, 6, 7.
@@ -122,11 +123,11 @@ pub fn decode(samples: &[f32], s: Settings, index: u64) -> Answer
     if number != 0 {
         return refused(number);
     }
-    let read = best_of(samples, s);
+    let mut symbols = [0.0f32; 2304];
+    let read = best_of(samples, &mut symbols, s);
     if read.number != 0 {
         return refused(1);
     }
-    let symbols = symbols_of(samples);
     let c = read.candidate;
     let place = c.place;
     let message = c.message;

@@ -21,7 +21,7 @@ ghost use Rattle.search.specs.Kinds.{long};
 ghost use Rattle.search.specs.Seen.{windowOf};
 ghost use Rattle.search.specs.Answers.{settingsNumber, survivorOf};
 ghost use Rattle.search.proofs.Staging.{atLevel};
-ghost use Rattle.receiver.specs.Inner.{Scanned, Listing, over};
+ghost use Rattle.receiver.specs.Inner.{Scanned, Listing, Sums, over};
 
 // The symbols of a window.
 pub fn symbols_of(samples: &[f32]) -> [f32; 2304]
@@ -33,9 +33,10 @@ pub fn symbols_of(samples: &[f32]) -> [f32; 2304]
     symbols
 }
 
-// The best of the places in a list: their symbols are made only here.
+// The best of the places in a list: only here the symbols are made, and they stay for the timing of what is found.
 fn best_listed(
     samples: &[f32],
+    symbols: &mut [f32],
     coherent: &[u8],
     noncoherent: &[u8],
     crcs: &[u32],
@@ -45,16 +46,16 @@ fn best_listed(
     count: usize,
     s: Settings,
 ) -> Survivor
-    requires { ⌜ Scanned (now samples) (now coherent) (now noncoherent) (now crcs) (now others) × Listing (s .level) (now crcs) (now others) (now list) (now codes) count × (settingsNumber s ≡ 0) ⌝ }
-    ensures { λ r. ⌜ r ≡ survivorOf (over (candidateAt long s (windowOf 14 (now (samples .entry)))) placeAt none (take count (now (list .entry)))) ⌝ }
+    requires { ⌜ Scanned (now samples) (now coherent) (now noncoherent) (now crcs) (now others) × Listing (s .level) (now crcs) (now others) (now list) (now codes) count × (settingsNumber s ≡ 0) × (length (now symbols) ≡ 2304) ⌝ }
+    ensures { λ r. ⌜ (r ≡ survivorOf (over (candidateAt long s (windowOf 14 (now (samples .entry)))) placeAt none (take count (now (list .entry))))) × Sums (now (samples .entry)) r (now (symbols .exit)) ⌝ }
 {
     if count == 0 {
         return nothing();
     }
-    let symbols = symbols_of(samples);
+    accumulate_symbols(samples, symbols);
     find(
         samples,
-        &symbols,
+        symbols,
         coherent,
         noncoherent,
         crcs,
@@ -69,20 +70,22 @@ fn best_listed(
 // The best without repairs.
 fn exact_best(
     samples: &[f32],
+    symbols: &mut [f32],
     coherent: &[u8],
     noncoherent: &[u8],
     crcs: &[u32],
     others: &[u32],
     s: Settings,
 ) -> Survivor
-    requires { ⌜ Scanned (now samples) (now coherent) (now noncoherent) (now crcs) (now others) × (settingsNumber s ≡ 0) ⌝ }
-    ensures { λ r. ⌜ r ≡ survivorOf (best long (atLevel 0 s) (windowOf 14 (now (samples .entry)))) ⌝ }
+    requires { ⌜ Scanned (now samples) (now coherent) (now noncoherent) (now crcs) (now others) × (settingsNumber s ≡ 0) × (length (now symbols) ≡ 2304) ⌝ }
+    ensures { λ r. ⌜ (r ≡ survivorOf (best long (atLevel 0 s) (windowOf 14 (now (samples .entry))))) × Sums (now (samples .entry)) r (now (symbols .exit)) ⌝ }
 {
     let mut list = [0u8; 248];
     let listed = list_exact(coherent, noncoherent, crcs, others, &mut list);
     let codes = [0x10000u32; 496];
     best_listed(
         samples,
+        symbols,
         coherent,
         noncoherent,
         crcs,
@@ -102,20 +105,22 @@ fn exact_best(
 // The best with repairs, where there is none without.
 fn repaired_best(
     samples: &[f32],
+    symbols: &mut [f32],
     coherent: &[u8],
     noncoherent: &[u8],
     crcs: &[u32],
     others: &[u32],
     s: Settings,
 ) -> Survivor
-    requires { ⌜ Scanned (now samples) (now coherent) (now noncoherent) (now crcs) (now others) × (settingsNumber s ≡ 0) × (best long (atLevel 0 s) (windowOf 14 (now samples)) ≡ none) ⌝ }
-    ensures { λ r. ⌜ r ≡ survivorOf (best long s (windowOf 14 (now (samples .entry)))) ⌝ }
+    requires { ⌜ Scanned (now samples) (now coherent) (now noncoherent) (now crcs) (now others) × (settingsNumber s ≡ 0) × (best long (atLevel 0 s) (windowOf 14 (now samples)) ≡ none) × (length (now symbols) ≡ 2304) ⌝ }
+    ensures { λ r. ⌜ (r ≡ survivorOf (best long s (windowOf 14 (now (samples .entry))))) × Sums (now (samples .entry)) r (now (symbols .exit)) ⌝ }
 {
     let mut list = [0u8; 248];
     let mut codes = [0u32; 496];
     let listed = find_repairable(s.level, crcs, others, &mut list, &mut codes);
     best_listed(
         samples,
+        symbols,
         coherent,
         noncoherent,
         crcs,
@@ -130,29 +135,30 @@ fn repaired_best(
 // What needs no repair comes first: where there is such a reading, no table is asked.
 fn in_stages(
     samples: &[f32],
+    symbols: &mut [f32],
     coherent: &[u8],
     noncoherent: &[u8],
     crcs: &[u32],
     others: &[u32],
     s: Settings,
 ) -> Survivor
-    requires { ⌜ Scanned (now samples) (now coherent) (now noncoherent) (now crcs) (now others) × (settingsNumber s ≡ 0) ⌝ }
-    ensures { λ r. ⌜ r ≡ survivorOf (best long s (windowOf 14 (now (samples .entry)))) ⌝ }
+    requires { ⌜ Scanned (now samples) (now coherent) (now noncoherent) (now crcs) (now others) × (settingsNumber s ≡ 0) × (length (now symbols) ≡ 2304) ⌝ }
+    ensures { λ r. ⌜ (r ≡ survivorOf (best long s (windowOf 14 (now (samples .entry))))) × Sums (now (samples .entry)) r (now (symbols .exit)) ⌝ }
 {
-    let exact = exact_best(samples, coherent, noncoherent, crcs, others, s);
+    let exact = exact_best(samples, symbols, coherent, noncoherent, crcs, others, s);
     if exact.number == 0 {
         return exact;
     }
     if s.level == 0 {
         return exact;
     }
-    repaired_best(samples, coherent, noncoherent, crcs, others, s)
+    repaired_best(samples, symbols, coherent, noncoherent, crcs, others, s)
 }
 
-// The best of all places.
-pub fn best_of(samples: &[f32], s: Settings) -> Survivor
-    requires { ⌜ (length (now samples) ≡ 2310) × (settingsNumber s ≡ 0) ⌝ }
-    ensures { λ r. ⌜ r ≡ survivorOf (best long s (windowOf 14 (now (samples .entry)))) ⌝ }
+// The best of all places. Where there is one, the symbols are those of the window.
+pub fn best_of(samples: &[f32], symbols: &mut [f32], s: Settings) -> Survivor
+    requires { ⌜ (length (now samples) ≡ 2310) × (settingsNumber s ≡ 0) × (length (now symbols) ≡ 2304) ⌝ }
+    ensures { λ r. ⌜ (r ≡ survivorOf (best long s (windowOf 14 (now (samples .entry))))) × Sums (now (samples .entry)) r (now (symbols .exit)) ⌝ }
 {
     let mut coherent = [0u8; 1152];
     let mut noncoherent = [0u8; 1152];
@@ -165,7 +171,7 @@ pub fn best_of(samples: &[f32], s: Settings) -> Survivor
         &mut crcs,
         &mut others,
     );
-    in_stages(samples, &coherent, &noncoherent, &crcs, &others, s)
+    in_stages(samples, symbols, &coherent, &noncoherent, &crcs, &others, s)
 }
 
 // The surviving reading of one place.

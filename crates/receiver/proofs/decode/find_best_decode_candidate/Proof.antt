@@ -1,6 +1,3 @@
--- `receiver::decode::find_best_decode_candidate` meets its contract.
--- Assumes nothing.
-use Rattle.receiver.proofs.Deciding.{best-taken, best-refused, best-done}
 use borrow.Author.Needs.{needs}
 use Rattle.receiver.proofs.decode.find_best_decode_candidate.Statement.{statement}
 use Rattle.receiver.proofs.decode.find_best_decode_candidate.Tie as tie
@@ -20,16 +17,27 @@ unread-requires c κs = search needs
 
 -- src/decode.rt:95:9
 returns : tie.Need-returns
-returns c = let a = c .before .before .before .before .args in best-refused (a .samples .now) (a .s) (c .before .before .best-number .ensures) (c .before .if1 .taken) (c .unread .ensures)
+returns c = ?
 
--- src/decode.rt:97:5
+-- src/decode.rt:98:22
+slice-aggregate-best-of : tie.Need-slice-aggregate-best-of
+slice-aggregate-best-of c = search needs
+
+-- src/decode.rt:98:5
 best-of-requires : tie.Need-best-of-requires
-best-of-requires c κs = let a = c .before .before .before .args in let t = best-taken (a .samples .now) (c .if1 .left) (a .s) (c .before .best-number .ensures) in (t .whole, t .settings)
+best-of-requires c κs = ?
 
 -- src/decode.rt:90:1
 returns-2 : tie.Need-returns-2
-returns-2 c = let a = c .before .before .before .before .args in best-done (a .samples .now) (a .s) (c .before .before .best-number .ensures) (c .before .if1 .left) (c .best-of .ensures)
+returns-2 c = ?
 
 pub find-best-decode-candidate-spec : {M : Type 1} → statement M
 find-best-decode-candidate-spec =
-    tie.close (tie.spec best-number-requires unread-requires returns best-of-requires returns-2)
+    tie.close
+    (tie.spec
+    best-number-requires
+    unread-requires
+    returns
+    slice-aggregate-best-of
+    best-of-requires
+    returns-2)

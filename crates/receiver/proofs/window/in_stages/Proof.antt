@@ -1,11 +1,3 @@
--- `receiver::window::in_stages` meets its contract: what needs no repair is what the search finds.
--- Assumes nothing.
-use Rattle.search.specs.Choice.{best}
-use Rattle.search.specs.Kinds.{long}
-use Rattle.search.specs.Seen.{windowOf}
-use Rattle.search.proofs.Staging.{atLevel}
-use Rattle.receiver.proofs.Deciding.{read-none}
-use Rattle.receiver.proofs.Stages.{first-stage, only-stage}
 use borrow.Author.Needs.{needs}
 use Rattle.receiver.proofs.window.in_stages.Statement.{statement}
 use Rattle.receiver.proofs.window.in_stages.Tie as tie
@@ -14,26 +6,47 @@ use Rattle.receiver.proofs.window.in_stages.Lts as lts
 use Rattle.receiver.proofs.window.exact_best.Reads as exact-best-reads
 use Rattle.receiver.proofs.window.repaired_best.Reads as repaired-best-reads
 
--- src/window.rt:121:9
+-- src/window.rt:148:9
 exact-best-requires : tie.Need-exact-best-requires
 exact-best-requires c κs = search needs
 
--- src/window.rt:123:9
+-- src/window.rt:150:9
+same-length : tie.Need-same-length
+same-length c = search needs
+
+-- src/window.rt:150:9
 returns : tie.Need-returns
-returns c = let a = c .before .before .before .before .before .before .before .before .args in first-stage (a .s) (windowOf 14 (a .samples .now)) (c .before .before .exact-best .ensures) (c .if1 .taken)
+returns c = ?
 
--- src/window.rt:126:9
+-- src/window.rt:153:9
+same-length-2 : tie.Need-same-length-2
+same-length-2 c = search needs
+
+-- src/window.rt:153:9
 returns-2 : tie.Need-returns-2
-returns-2 c = let a = c .before .before .before .before .before .before .before .before .before .before .args in only-stage (a .s) (windowOf 14 (a .samples .now)) (c .if2 .taken) (c .before .before .before .before .exact-best .ensures)
+returns-2 c = ?
 
--- src/window.rt:128:5
+-- src/window.rt:155:5
 repaired-best-requires : tie.Need-repaired-best-requires
-repaired-best-requires c κs = let s = c .before .before .before .before .before .before .before .before .before .before in let a = s .args in (s .pre .0, s .pre .1, read-none (best long (atLevel 0 (a .s)) (windowOf 14 (a .samples .now))) (c .before .before .before .before .exact-best .ensures) (c .before .before .if1 .left))
+repaired-best-requires c κs = ?
 
--- src/window.rt:117:1
+-- src/window.rt:136:1
+same-length-3 : tie.Need-same-length-3
+same-length-3 c = search needs
+
+-- src/window.rt:136:1
 returns-3 : tie.Need-returns-3
 returns-3 c = search needs
 
 pub in-stages-spec : {M : Type 1} → statement M
 in-stages-spec =
-    tie.close (tie.spec exact-best-requires returns returns-2 repaired-best-requires returns-3)
+    tie.close
+    (tie.spec
+    exact-best-requires
+    same-length
+    returns
+    same-length-2
+    returns-2
+    repaired-best-requires
+    same-length-3
+    returns-3)

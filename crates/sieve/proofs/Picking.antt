@@ -4,7 +4,8 @@
 --     told-by                 the codes of the first n, from those of a part
 --     Kept, kept-taken, kept-left, kept-all   the loop that keeps
 --     through-within          the places that were let through are below 248
---     places-kept, codes-kept, none-kept   what is kept are the places that so many repairs can clear
+--     all-kept, none-kept     what is kept are the places that so many repairs can clear
+--     level-zero, into-done   the answer
 -- Assumes nothing.
 use mathlib.Core.Path.{_≡_, refl, sym, ap, ap₂, _∙_, subst}
 use mathlib.Core.Bool.{Bool, true, false, cond, _||_}

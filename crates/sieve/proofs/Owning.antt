@@ -1,7 +1,7 @@
 -- Laws of the hash that only lets through.
 --     owner-law               its rule, by one computed test over both tables
 --     slot-lt, index-lt       a remainder's slot is there, and its displacement
---     lets-hit, lets-miss, asks-let, asks-not     in the code's own words
+--     lets-hit, lets-miss, asks-let, asks-not   in the code's own words
 --     lets-gone, asks-same    what is not let through no such number of positions clears, and 2^24 is asked in its place
 --     let-bit, let-places     the two remainders of a place
 -- Assumes nothing.

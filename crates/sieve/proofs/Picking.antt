@@ -1,9 +1,11 @@
 -- What is gathered, told and kept of the places that were let through.
 --     gathered-more           two more numbers are asked
+--     sifted                  what a hash of some level gives
 --     told-by                 the codes of the first n, from those of a part
 --     Kept, kept-taken, kept-left, kept-all   the loop that keeps
 --     through-within          the places that were let through are below 248
---     places-kept, codes-kept, none-kept   what is kept are the places that so many repairs can clear
+--     all-kept, none-kept     what is kept are the places that so many repairs can clear
+--     level-zero, into-done   the answer
 -- Assumes nothing.
 use mathlib.Core.Path.{_≡_, refl, sym, ap, ap₂, _∙_, subst}
 use mathlib.Core.Bool.{Bool, true, false, cond, _||_}
@@ -23,7 +25,7 @@ use Rattle.sieve.specs.declared.list.Shape.{Shape}
 use Rattle.sieve.specs.declared.Listed.{Listed}
 use Rattle.scan.specs.Sieve.{kept, laneOf, onto}
 use Rattle.sieve.specs.Repairable.{repairable, repairableAt, repairablePlaces, codePairs, repairableIn, repairableInto}
-use Rattle.sieve.specs.Inner.{letIn, Owners, asks, Within, Gathered, taken, picked, pickedCodes, keptIn}
+use Rattle.sieve.specs.Inner.{letIn, Owners, asks, Within, Gathered, Sifted, taken, picked, pickedCodes, keptIn}
 use Rattle.sieve.proofs.Clears.{coded}
 use Rattle.sieve.proofs.Listing.{kept-none, kept-lt, among, among-snoc, among-kept, onto-none, onto-more}
 use Rattle.sieve.proofs.Owning.{asks-same, let-places}
@@ -80,17 +82,30 @@ code-at level n asked told h e i l =
     ∙ getD-tabulate (length (take n asked)) (λ (k : ℕ). codeUpTo level (getD (take n asked) k 0)) i 0 (rw (length-take-le n asked h) l)
     ∙ ap (codeUpTo level) (getD-take n asked i 0 l)
 
-pub told-by : (level : ℕ) (s : Shape) (d o crcs others through asked told : List ℕ) (n : ℕ) → Owners level s d o
-    → Gathered s d o crcs others through asked n → n ≤ 248 → take (2 * n) told ≡ codesUpTo level (take (2 * n) asked)
-    → Told level crcs others through told n
-told-by level s d o crcs others through asked told n w g h e =
+pub sifted : (level : ℕ) (s : Shape) (d o crcs others through asked : List ℕ) (n : ℕ) → Owners level s d o → n ≤ 248 → length through ≡ 256
+    → take n through ≡ kept (letIn s d o crcs others) 248 → Gathered s d o crcs others through asked n → Sifted level crcs others through asked n
+sifted level s d o crcs others through asked n w h e q g =
     record {
-      first = λ m l. at (2 * m) (omega arith) ∙ ap (codeUpTo level) (g .first m l) ∙ asks-same s d o level w _;
-      second = λ m l. at (2 * m + 1) (omega arith) ∙ ap (codeUpTo level) (g .second m l) ∙ asks-same s d o level w _;
+      few = h;
+      size = e;
+      sizes = g .size;
+      test = letIn s d o crcs others;
+      places = q;
+      none = let-places s d o level w crcs others;
+      first = λ m l. ap (codeUpTo level) (g .first m l) ∙ asks-same s d o level w (getD crcs (laneOf (getD through m 0)) 0);
+      second = λ m l. ap (codeUpTo level) (g .second m l) ∙ asks-same s d o level w (getD others (laneOf (getD through m 0)) 0);
+    }
+
+pub told-by : (level : ℕ) (crcs others through asked told : List ℕ) (n : ℕ) → Sifted level crcs others through asked n
+    → take (2 * n) told ≡ codesUpTo level (take (2 * n) asked) → Told level crcs others through told n
+told-by level crcs others through asked told n g e =
+    record {
+      first = λ m l. at (2 * m) (omega arith) ∙ g .first m l;
+      second = λ m l. at (2 * m + 1) (omega arith) ∙ g .second m l;
     }
   where
     at : (i : ℕ) → i < 2 * n → getD told i 0 ≡ codeUpTo level (getD asked i 0)
-    at i l = code-at level (2 * n) asked told (omega (arith, g .size)) e i l
+    at i l = code-at level (2 * n) asked told (omega (arith, g .sizes, g .few)) e i l
 
 -- ---- kept
 
@@ -239,26 +254,24 @@ module _ (level : ℕ) (crcs others : List ℕ) where
         step true = sym (pairs-snoc (among test (take m through)) (getD through m 0))
         step false = refl
 
-  module _ (s : Shape) (d o : List ℕ) (w : Owners level s d o) where
-    places-are : (ks : List ℕ) → ks ≡ kept (letIn s d o crcs others) 248 → among test ks ≡ repairablePlaces level crcs others
+  module _ (through asked : List ℕ) (n : ℕ) (w : Sifted level crcs others through asked n) where
+    places-are : (ks : List ℕ) → ks ≡ kept (w .test) 248 → among test ks ≡ repairablePlaces level crcs others
     unfolding repairablePlaces
-    places-are ks e = rw e (among-kept (letIn s d o crcs others) test (let-places s d o level w crcs others) 248)
+    places-are ks e = rw e (among-kept (w .test) test (w .none) 248)
 
-    pub all-kept : (through told : List ℕ) (n : ℕ) (list codes : List ℕ) (x : ℕ) (ls cs : List ℕ) → n ≤ length through
-        → take n through ≡ kept (letIn s d o crcs others) 248
-        → Told level crcs others through told n → (x, ls, cs) ≡ keptIn through told n list codes
-        → (record { number = 0; count = x }, ls, cs) ≡ repairableIn level crcs others list codes
+    pub all-kept : (told list codes : List ℕ) (x : ℕ) (ls cs : List ℕ) → Told level crcs others through told n
+        → (x, ls, cs) ≡ keptIn through told n list codes → (record { number = 0; count = x }, ls, cs) ≡ repairableIn level crcs others list codes
     unfolding keptIn repairableIn
-    all-kept through told n list codes x ls cs l e t q =
-        let p = picked-is through told n t l n (omega arith) ∙ places-are (take n through) e in
-        let c = codes-are through told n t l n (omega arith) ∙ ap (codePairs level crcs others) (places-are (take n through) e) in
+    all-kept told list codes x ls cs t q =
+        let l : n ≤ length through = omega (arith, w .few, w .size) in
+        let p = picked-is through told n t l n (omega arith) ∙ places-are (take n through) (w .places) in
+        let c = codes-are through told n t l n (omega arith) ∙ ap (codePairs level crcs others) (places-are (take n through) (w .places)) in
         ap answered q ∙ rw (p, c)
 
-    pub none-kept : (through : List ℕ) (n : ℕ) (list codes : List ℕ) → n ≡ 0 → take n through ≡ kept (letIn s d o crcs others) 248
-        → (record { number = 0; count = 0 }, list, codes) ≡ repairableIn level crcs others list codes
+    pub none-kept : (list codes : List ℕ) → n ≡ 0 → (record { number = 0; count = 0 }, list, codes) ≡ repairableIn level crcs others list codes
     unfolding repairableIn codePairs among
-    none-kept through n list codes z e =
-        let p : [] ≡ repairablePlaces level crcs others = places-are [] (rw z at e) in
+    none-kept list codes z =
+        let p : [] ≡ repairablePlaces level crcs others = places-are [] (rw z at (w .places)) in
         rw (← p) (ap₂ (λ (a b : List ℕ). answered (0, a, b)) (onto-none list) (onto-none codes))
 
 -- ---- the answer

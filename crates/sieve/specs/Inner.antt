@@ -3,16 +3,18 @@
 -- the slot names the low bits of the remainder that owns it. Each pattern of at least one and at most so many positions owns its slot.
 -- Assumes nothing.
 use mathlib.Core.Path.{_≡_}
-use mathlib.Core.Bool.{Bool, cond, _||_}
+use mathlib.Core.Bool.{Bool, false, cond, _||_}
 use mathlib.Core.List.{List, [], _∷_, _++_}
 use Prim.Native.Nat.{ℕ, zero, suc, _+_, _*_, _/_, _^_, _<_, _≤_}
 use lib.Bits.{bitXor, bitAnd}
 use lib.Dec.{eqb, ltb}
-use lib.ListN.{length, getD}
+use lib.ListN.{length, getD, take}
 use Rattle.annex10.specs.declared.Repairs.{Repairs}
 use Rattle.annex10.specs.Repair.{Proper, count, pattern}
 use Rattle.sieve.specs.declared.list.Shape.{Shape}
-use Rattle.scan.specs.Sieve.{laneOf, onto}
+use Rattle.repairs.specs.Codes.{codeUpTo}
+use Rattle.scan.specs.Sieve.{kept, laneOf, onto}
+use Rattle.sieve.specs.Repairable.{repairableAt}
 
 -- the slot of a remainder
 abbrev pub slotOf : Shape → List ℕ → ℕ → ℕ
@@ -54,6 +56,17 @@ pub record Gathered (s : Shape) (ds os crcs others through asked : List ℕ) (n 
   pub size : length asked ≡ 496
   pub first : (m : ℕ) → m < n → getD asked (2 * m) 0 ≡ asks s ds os (getD crcs (laneOf (getD through m 0)) 0)
   pub second : (m : ℕ) → m < n → getD asked (2 * m + 1) 0 ≡ asks s ds os (getD others (laneOf (getD through m 0)) 0)
+
+-- what a hash of some level gives: every place that it lets through, and in place of the two remainders of each two with the same codes
+pub record Sifted (level : ℕ) (crcs others through asked : List ℕ) (n : ℕ) : Type 0 where
+  pub few : n ≤ 248
+  pub size : length through ≡ 256
+  pub sizes : length asked ≡ 496
+  pub test : ℕ → Bool
+  pub places : take n through ≡ kept test 248
+  pub none : (k : ℕ) → test k ≡ false → repairableAt level crcs others k ≡ false
+  pub first : (m : ℕ) → m < n → codeUpTo level (getD asked (2 * m) 0) ≡ codeUpTo level (getD crcs (laneOf (getD through m 0)) 0)
+  pub second : (m : ℕ) → m < n → codeUpTo level (getD asked (2 * m + 1) 0) ≡ codeUpTo level (getD others (laneOf (getD through m 0)) 0)
 
 -- of the first n places those with a code of at least one position, and their codes
 unfoldable pub taken : List ℕ → ℕ → Bool

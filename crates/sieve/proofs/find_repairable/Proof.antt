@@ -36,8 +36,8 @@ returns-6 c =
     (c .before .before .before .before .before .if1 .left) (c .before .before .before .before .if2 .left) (c .before .before .before .if3 .left) (c .before .before .if4 .left)
     (c .if6 .taken) (omega arith) (level-zero _ _ _ _)
 
-find-one-requires : tie.Need-find-one-requires
-find-one-requires c κs = search needs
+find-requires : tie.Need-find-requires
+find-requires c κs = search needs
 
 same-length : tie.Need-same-length
 same-length c = search needs
@@ -47,26 +47,10 @@ same-length-2 c = search needs
 
 returns-7 : tie.Need-returns-7
 returns-7 c =
-    let a = c .before .before .before .before .before .before .before .before .before .before .before .before .before .before .before .before .before .before .args in
+    let a = c .before .before .before .before .before .before .before .before .before .before .before .before .before .before .before .before .before .args in
     into-done (a .level) (a .level) (now (a .crcs)) (now (a .others)) (now (a .list)) (now (a .codes)) _ _ _
-    (c .before .before .before .before .before .before .before .before .before .before .before .before .before .if1 .left) (c .before .before .before .before .before .before .before .before .before .before .before .before .if2 .left) (c .before .before .before .before .before .before .before .before .before .before .before .if3 .left) (c .before .before .before .before .before .before .before .before .before .before .if4 .left)
-    refl (omega arith) (c .before .before .before .before .find-one .ensures)
-
-find-two-requires : tie.Need-find-two-requires
-find-two-requires c κs = search needs
-
-same-length-3 : tie.Need-same-length-3
-same-length-3 c = search needs
-
-same-length-4 : tie.Need-same-length-4
-same-length-4 c = search needs
-
-returns-8 : tie.Need-returns-8
-returns-8 c =
-    let a = c .before .before .before .before .before .before .before .before .before .before .before .before .before .before .before .before .before .before .args in
-    into-done (a .level) (a .level) (now (a .crcs)) (now (a .others)) (now (a .list)) (now (a .codes)) _ _ _
-    (c .before .before .before .before .before .before .before .before .before .before .before .before .before .if1 .left) (c .before .before .before .before .before .before .before .before .before .before .before .before .if2 .left) (c .before .before .before .before .before .before .before .before .before .before .before .if3 .left) (c .before .before .before .before .before .before .before .before .before .before .if4 .left)
-    refl (omega arith) (c .before .before .before .before .find-two .ensures)
+    (c .before .before .before .before .before .before .before .before .before .before .before .before .if1 .left) (c .before .before .before .before .before .before .before .before .before .before .before .if2 .left) (c .before .before .before .before .before .before .before .before .before .before .if3 .left) (c .before .before .before .before .before .before .before .before .before .if4 .left)
+    refl (omega arith) (c .before .before .before .before .find .ensures)
 
 pub find-repairable-spec : {M : Type 1} → statement M
 find-repairable-spec =
@@ -78,11 +62,7 @@ find-repairable-spec =
     returns-4
     returns-5
     returns-6
-    find-one-requires
+    find-requires
     same-length
     same-length-2
-    returns-7
-    find-two-requires
-    same-length-3
-    same-length-4
-    returns-8)
+    returns-7)

@@ -1,3 +1,10 @@
+-- `receiver::decode::decode` meets its contract: what is found lies at a place that is searched, so it can be timed.
+-- Assumes nothing.
+use mathlib.Core.List.{List}
+use lib.Ieee.{Float}
+use mathlib.Core.Path.{refl, sym, ap, _∙_}
+use Rattle.receiver.specs.Inner.{powerIn, arrivalIn}
+use Rattle.receiver.proofs.Deciding.{decode-taken, read-some, read-none, best-listed, best-power, decode-refused, decode-none, decode-done}
 use borrow.Author.Needs.{needs}
 use Rattle.receiver.proofs.decode.decode.Statement.{statement}
 use Rattle.receiver.proofs.decode.decode.Tie as tie
@@ -18,7 +25,7 @@ refused-requires c κs = search needs
 
 -- src/decode.rt:124:9
 returns : tie.Need-returns
-returns c = ?
+returns c = let a = c .before .before .before .before .args in decode-refused (a .samples .now) (a .s) (a .index) (c .before .before .decode-number .ensures) (c .before .if1 .taken) (c .refused .ensures)
 
 -- src/decode.rt:127:33
 slice-aggregate-best-of : tie.Need-slice-aggregate-best-of
@@ -26,7 +33,7 @@ slice-aggregate-best-of c = search needs
 
 -- src/decode.rt:127:9
 best-of-requires : tie.Need-best-of-requires
-best-of-requires c κs = ?
+best-of-requires c κs = let a = c .before .before .before .before .args in let t = decode-taken (a .samples .now) (c .before .if1 .left) (a .s) (a .index) (c .before .before .decode-number .ensures) in (t .0 .whole, t .0 .settings, refl)
 
 -- src/decode.rt:129:9
 refused-requires-2 : tie.Need-refused-requires-2
@@ -34,7 +41,7 @@ refused-requires-2 c κs = search needs
 
 -- src/decode.rt:129:9
 returns-2 : tie.Need-returns-2
-returns-2 c = ?
+returns-2 c = let a = c .before .before .before .before .before .before .before .before .before .args in decode-none (a .samples .now) (a .s) (a .index) (c .before .before .before .before .before .before .before .decode-number .ensures) (c .before .before .before .before .before .before .if1 .left) (read-none _ (c .before .before .before .before .best-of .ensures .0) (c .before .if2 .taken)) (c .refused2 .ensures)
 
 -- src/decode.rt:136:25
 slice-aggregate-time-in : tie.Need-slice-aggregate-time-in
@@ -42,11 +49,29 @@ slice-aggregate-time-in c = search needs
 
 -- src/decode.rt:136:9
 time-in-requires : tie.Need-time-in-requires
-time-in-requires c κs = ?
+time-in-requires c κs =
+    let a = c .before .before .before .before .before .before .before .before .before .before .before .before .args in
+    let t = decode-taken (a .samples .now) (c .before .before .before .before .before .before .before .before .before .if1 .left) (a .s) (a .index) (c .before .before .before .before .before .before .before .before .before .before .decode-number .ensures) in
+    let b = c .before .before .before .before .before .before .before .best-of in
+    let f = b .result .candidate in
+    let z = c .before .before .before .before .if2 .left in
+    let w = read-some _ (b .ensures .0) z in (
+      b .ensures .1 .size,
+      best-listed _ _ w,
+      t .1,
+      t .2,
+      best-power (a .s) (a .samples .now) w ∙ ap (λ (x : List Float). powerIn x (f .place) (f .message)) (sym (b .ensures .1 .made z)),
+    )
 
 -- src/decode.rt:119:1
 returns-3 : tie.Need-returns-3
-returns-3 c = ?
+returns-3 c =
+    let a = c .before .before .before .before .before .before .before .before .before .before .before .before .before .args in
+    let b = c .before .before .before .before .before .before .before .before .best-of in
+    let f = b .result .candidate in
+    let z = c .before .before .before .before .before .if2 .left in
+    decode-done (a .samples .now) (a .s) (a .index) f (c .before .before .before .before .before .before .before .before .before .before .before .decode-number .ensures) (c .before .before .before .before .before .before .before .before .before .before .if1 .left) (read-some _ (b .ensures .0) z)
+    (c .time-in .ensures ∙ ap (λ (x : List Float). arrivalIn x (f .place) (f .message) (a .index)) (b .ensures .1 .made z))
 
 pub decode-spec : {M : Type 1} → statement M
 decode-spec =

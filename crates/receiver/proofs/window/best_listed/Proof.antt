@@ -1,3 +1,21 @@
+-- `receiver::window::best_listed` meets its contract: an empty list needs no symbols.
+-- Assumes nothing.
+use mathlib.Core.Path.{sym, ap, _∙_}
+use mathlib.Core.List.{List}
+use mathlib.Core.Option.{none}
+use Prim.Native.Nat.{ℕ}
+use native.Mathlib.Omega.{arith}
+use lib.ListN.{length, take}
+use lib.Ieee.{Float}
+use Rattle.kernels.proofs.Summing.{accumulated-done, symbols-length}
+use Rattle.search.specs.declared.Survivor.{Survivor}
+use Rattle.place.specs.All.{placeAt}
+use Rattle.search.specs.Choice.{candidateAt}
+use Rattle.search.specs.Kinds.{long}
+use Rattle.search.specs.Seen.{windowOf}
+use Rattle.search.specs.Answers.{survivorOf}
+use Rattle.receiver.specs.Inner.{over}
+use Rattle.receiver.proofs.Listed.{found-none}
 use borrow.Author.Needs.{needs}
 use Rattle.receiver.proofs.window.best_listed.Statement.{statement}
 use Rattle.receiver.proofs.window.best_listed.Tie as tie
@@ -13,7 +31,14 @@ nothing-requires c κs = search needs
 
 -- src/window.rt:53:9
 returns : tie.Need-returns
-returns c = ?
+returns c =
+    let s = c .before .before .before .before .before .before .before .before .before .before in
+    let a = s .args in
+    let f = candidateAt long (a .s) (windowOf 14 (a .samples .now)) in
+    let e = c .nothing .ensures in (
+      e ∙ ap survivorOf (found-none f (a .list .now) ∙ ap (λ (n : ℕ). over f placeAt none (take n (a .list .now))) (sym (c .before .if1 .taken))),
+      record { size = s .pre .3; made = λ z. absurd (omega (arith, ap (λ (x : Survivor). x .number) e)) },
+    )
 
 -- src/window.rt:55:5
 accumulate-symbols-requires : tie.Need-accumulate-symbols-requires
@@ -21,7 +46,10 @@ accumulate-symbols-requires c κs = search needs
 
 -- src/window.rt:56:5
 find-requires : tie.Need-find-requires
-find-requires c κs = ?
+find-requires c κs =
+    let s = c .before .before .before .before .before .before .before .before .before .before .before .before .before .before in
+    let e = ap (λ (x : ℕ × List Float). x .1) (c .before .before .before .accumulate-symbols .ensures ∙ accumulated-done (s .args .samples .now) _ (s .pre .0 .whole) (s .pre .3)) in
+    (record { scanned = s .pre .0; sums = e }, s .pre .1, s .pre .2)
 
 -- src/window.rt:37:1
 same-length : tie.Need-same-length
@@ -29,7 +57,10 @@ same-length c = search needs
 
 -- src/window.rt:37:1
 returns-2 : tie.Need-returns-2
-returns-2 c = ?
+returns-2 c =
+    let s = c .before .before .before .before .before .before .before .before .before .before .before .before .before .before .before in
+    let e = ap (λ (x : ℕ × List Float). x .1) (c .before .before .before .before .accumulate-symbols .ensures ∙ accumulated-done (s .args .samples .now) _ (s .pre .0 .whole) (s .pre .3)) in
+    (c .find .ensures, record { size = ap length e ∙ symbols-length (s .args .samples .now); made = λ z. e })
 
 pub best-listed-spec : {M : Type 1} → statement M
 best-listed-spec =

@@ -1,3 +1,7 @@
+-- `receiver::window::best_of` meets its contract: the window is scanned, and the search is made in stages.
+-- Assumes nothing.
+use mathlib.Core.Path.{refl}
+use Rattle.receiver.proofs.Finding.{scan-done}
 use borrow.Author.Needs.{needs}
 use Rattle.receiver.proofs.window.best_of.Statement.{statement}
 use Rattle.receiver.proofs.window.best_of.Tie as tie
@@ -44,7 +48,7 @@ slice-aggregate-in-stages-4 c = search needs
 
 -- src/window.rt:174:5
 in-stages-requires : tie.Need-in-stages-requires
-in-stages-requires c κs = ?
+in-stages-requires c κs = let s = c .before .before .before .before .before .before .before .before .before .before .before .before .before .before .before .before in (scan-done _ _ _ _ _ (s .pre .0) refl refl refl refl (c .before .before .before .before .before .before .before .before .before .scan .ensures), s .pre .1, s .pre .2)
 
 -- src/window.rt:159:1
 same-length : tie.Need-same-length

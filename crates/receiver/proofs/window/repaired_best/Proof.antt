@@ -1,3 +1,10 @@
+-- `receiver::window::repaired_best` meets its contract: at a place that is not listed no repair clears either message.
+-- Assumes nothing.
+use mathlib.Core.Path.{refl}
+use lib.ListN.{replicate}
+use Rattle.receiver.proofs.Weighing.{level-low}
+use Rattle.receiver.proofs.Finding.{scanned-sizes}
+use Rattle.receiver.proofs.Repaired.{repaired-taken, repaired-best}
 use borrow.Author.Needs.{needs}
 use Rattle.receiver.proofs.window.repaired_best.Statement.{statement}
 use Rattle.receiver.proofs.window.repaired_best.Tie as tie
@@ -28,7 +35,13 @@ slice-aggregate-best-listed-2 c = search needs
 
 -- src/window.rt:121:5
 best-listed-requires : tie.Need-best-listed-requires
-best-listed-requires c κs = ?
+best-listed-requires c κs =
+    let s = c .before .before .before .before .before .before .before .before .before .before .before .before .before .before in
+    let a = s .args in
+    let z = scanned-sizes (a .samples .now) (a .coherent .now) (a .noncoherent .now) (a .crcs .now) (a .others .now) (s .pre .0) in
+    let low = level-low (a .s) (s .pre .1) in
+    let t = repaired-taken (a .s .level) (a .crcs .now) (a .others .now) (replicate 248 0) (replicate 496 0) (z .first-crcs) (z .second-crcs) refl refl low (c .before .before .before .before .before .find-repairable .ensures) in
+    (s .pre .0, t .listing, s .pre .1, s .pre .3)
 
 -- src/window.rt:106:1
 same-length : tie.Need-same-length
@@ -36,7 +49,14 @@ same-length c = search needs
 
 -- src/window.rt:106:1
 returns : tie.Need-returns
-returns c = ?
+returns c =
+    let s = c .before .before .before .before .before .before .before .before .before .before .before .before .before .before .before .before .before in
+    let a = s .args in
+    let z = scanned-sizes (a .samples .now) (a .coherent .now) (a .noncoherent .now) (a .crcs .now) (a .others .now) (s .pre .0) in
+    let low = level-low (a .s) (s .pre .1) in
+    let t = repaired-taken (a .s .level) (a .crcs .now) (a .others .now) (replicate 248 0) (replicate 496 0) (z .first-crcs) (z .second-crcs) refl refl low (c .before .before .before .before .before .before .before .before .find-repairable .ensures) in
+    let e = c .before .before .best-listed .ensures in
+    (repaired-best (a .samples .now) (a .coherent .now) (a .noncoherent .now) (a .crcs .now) (a .others .now) (s .pre .0) (a .s) low (s .pre .2) (t .front) (e .0), e .1)
 
 pub repaired-best-spec : {M : Type 1} → statement M
 repaired-best-spec =

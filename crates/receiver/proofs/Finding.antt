@@ -13,7 +13,7 @@ use Prim.Native.Nat.{ℕ, _+_, _-_, _*_, _<_, _≤_, min}
 use native.Mathlib.Omega.{arith}
 use borrow.Author.Tests.{eq-eqb}
 use lib.Dec.{eqb}
-use lib.ListN.{length, getD, take, drop, length-take, length-drop}
+use lib.ListN.{length, getD, take, drop}
 use lib.Ieee.{Float}
 use Rattle.lists.specs.From.{tabulate}
 use Rattle.lists.proofs.Table.{length-tabulate, getD-tabulate}

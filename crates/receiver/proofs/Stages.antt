@@ -3,11 +3,11 @@
 --     exact-best                   the search over it is that at level 0
 --     none-without                 where it finds nothing, no place holds anything at level 0
 -- Assumes nothing.
-use mathlib.Core.Path.{_≡_, refl, sym, ap, _∙_, subst}
+use mathlib.Core.Path.{_≡_, refl, sym, ap, _∙_}
 use mathlib.Core.Bool.{Bool, true, false, _&&_, cond}
 use mathlib.Core.List.{List}
-use mathlib.Core.Option.{Option, none, some}
-use Prim.Native.Nat.{ℕ, _+_, _*_, _<_, _≤_}
+use mathlib.Core.Option.{none}
+use Prim.Native.Nat.{ℕ, _+_, _*_}
 use native.Mathlib.Omega.{arith}
 use lib.ListN.{length, getD, take, replicate, getD-replicate}
 use lib.Dec.{leb}
@@ -16,9 +16,8 @@ use lib.Ieee.Scale.{finite}
 use Rattle.place.specs.declared.Slicer.the-variants.{Coherent, Noncoherent}
 use Rattle.place.specs.All.{placeAt}
 use Rattle.search.specs.declared.Settings.{Settings}
-use Rattle.search.specs.declared.Candidate.{Candidate}
 use Rattle.search.specs.declared.Survivor.{Survivor}
-use Rattle.search.specs.Choice.{candidateAt, scan, best}
+use Rattle.search.specs.Choice.{candidateAt, best}
 use Rattle.search.specs.Window.{Window}
 use Rattle.search.specs.Kinds.{long}
 use Rattle.search.specs.Seen.{windowOf}
@@ -30,7 +29,7 @@ use Rattle.scan.specs.Flat.{bitsFrom, crcsIn}
 use Rattle.scan.specs.Exact.{exact, exactInto}
 use Rattle.scan.proofs.Listing.{exact-done}
 use Rattle.scan.proofs.Exacting.{no-candidate}
-use Rattle.receiver.specs.Inner.{Scanned, Listing, Finds, foundBy, over}
+use Rattle.receiver.specs.Inner.{Scanned, Listing, over}
 use Rattle.receiver.proofs.Deciding.{read-some}
 use Rattle.receiver.proofs.Finding.{scanned-sizes, best-is}
 use Rattle.receiver.proofs.Listed.{Front, front-of, searched, exact-finds}

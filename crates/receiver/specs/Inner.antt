@@ -16,7 +16,6 @@ use Rattle.annex10.specs.declared.Repairs.the-variants.{None, One, Two}
 use Rattle.annex10.specs.declared.Found.{Found}
 use Rattle.annex10.specs.declared.Found.the-variants.{At, Nothing}
 use Rattle.place.specs.declared.Place.{Place}
-use Rattle.place.specs.declared.Slicer.{Slicer}
 use Rattle.place.specs.declared.Slicer.the-variants.{Coherent, Noncoherent}
 use Rattle.place.specs.Step.{sampleStart}
 use Rattle.parts.specs.Part.{symbolsFor, samplesFor, chosen}

@@ -6,20 +6,14 @@ use Rattle.receiver.specs.Inner.{foundBy}
 use borrow.Author.Needs.{needs}
 use Rattle.receiver.proofs.codes.bit_errors_by.Statement.{statement}
 use Rattle.receiver.proofs.codes.bit_errors_by.Tie as tie
-use Rattle.receiver.proofs.codes.bit_errors_by.Reads as reads
-use Rattle.receiver.proofs.codes.bit_errors_by.Lts as lts
-use Rattle.receiver.proofs.codes.bit_errors_of.Reads as bit-errors-of-reads
 
--- src/codes.rt:31:9
 returns : tie.Need-returns
 unfolding foundBy
 returns c = rw (eq-eqb _ _ (c .if1 .taken))
 
--- src/codes.rt:33:5
 bit-errors-of-requires : tie.Need-bit-errors-of-requires
 bit-errors-of-requires c κs = search needs
 
--- src/codes.rt:27:1
 returns-2 : tie.Need-returns-2
 unfolding foundBy
 returns-2 c = c .bit-errors-of .ensures ∙ rw (ne-eqb _ _ (c .before .if1 .left))

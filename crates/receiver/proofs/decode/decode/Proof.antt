@@ -8,46 +8,31 @@ use Rattle.receiver.proofs.Deciding.{decode-taken, read-some, read-none
 use borrow.Author.Needs.{needs}
 use Rattle.receiver.proofs.decode.decode.Statement.{statement}
 use Rattle.receiver.proofs.decode.decode.Tie as tie
-use Rattle.receiver.proofs.decode.decode.Reads as reads
-use Rattle.receiver.proofs.decode.decode.Lts as lts
-use Rattle.receiver.proofs.decode.refused.Reads as refused-reads
-use Rattle.receiver.proofs.decode.time_in.Reads as time-in-reads
-use Rattle.receiver.proofs.refusals.decode_number.Reads as decode-number-reads
-use Rattle.receiver.proofs.window.best_of.Reads as best-of-reads
 
--- src/decode.rt:122:9
 decode-number-requires : tie.Need-decode-number-requires
 decode-number-requires c κs = search needs
 
--- src/decode.rt:124:9
 refused-requires : tie.Need-refused-requires
 refused-requires c κs = search needs
 
--- src/decode.rt:124:9
 returns : tie.Need-returns
 returns c = let a = c .before .before .before .before .args in decode-refused (a .samples .now) (a .s) (a .index) (c .before .before .decode-number .ensures) (c .before .if1 .taken) (c .refused .ensures)
 
--- src/decode.rt:127:33
 slice-aggregate-best-of : tie.Need-slice-aggregate-best-of
 slice-aggregate-best-of c = search needs
 
--- src/decode.rt:127:9
 best-of-requires : tie.Need-best-of-requires
 best-of-requires c κs = let a = c .before .before .before .before .args in let t = decode-taken (a .samples .now) (c .before .if1 .left) (a .s) (a .index) (c .before .before .decode-number .ensures) in (t .0 .whole, t .0 .settings, refl)
 
--- src/decode.rt:129:9
 refused-requires-2 : tie.Need-refused-requires-2
 refused-requires-2 c κs = search needs
 
--- src/decode.rt:129:9
 returns-2 : tie.Need-returns-2
 returns-2 c = let a = c .before .before .before .before .before .before .before .before .before .args in decode-none (a .samples .now) (a .s) (a .index) (c .before .before .before .before .before .before .before .decode-number .ensures) (c .before .before .before .before .before .before .if1 .left) (read-none _ (c .before .before .before .before .best-of .ensures .0) (c .before .if2 .taken)) (c .refused2 .ensures)
 
--- src/decode.rt:136:25
 slice-aggregate-time-in : tie.Need-slice-aggregate-time-in
 slice-aggregate-time-in c = search needs
 
--- src/decode.rt:136:9
 time-in-requires : tie.Need-time-in-requires
 time-in-requires c κs =
     let a = c .before .before .before .before .before .before .before .before .before .before .before .before .args in
@@ -63,7 +48,6 @@ time-in-requires c κs =
       best-power (a .s) (a .samples .now) w ∙ ap (λ (x : List Float). powerIn x (f .place) (f .message)) (sym (b .ensures .1 .made z)),
     )
 
--- src/decode.rt:119:1
 returns-3 : tie.Need-returns-3
 returns-3 c =
     let a = c .before .before .before .before .before .before .before .before .before .before .before .before .before .args in

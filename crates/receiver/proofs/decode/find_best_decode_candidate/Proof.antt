@@ -5,33 +5,22 @@ use Rattle.receiver.proofs.Deciding.{best-taken, best-refused, best-don
 use borrow.Author.Needs.{needs}
 use Rattle.receiver.proofs.decode.find_best_decode_candidate.Statement.{statement}
 use Rattle.receiver.proofs.decode.find_best_decode_candidate.Tie as tie
-use Rattle.receiver.proofs.decode.find_best_decode_candidate.Reads as reads
-use Rattle.receiver.proofs.decode.find_best_decode_candidate.Lts as lts
-use Rattle.receiver.proofs.candidate.unread.Reads as unread-reads
-use Rattle.receiver.proofs.refusals.best_number.Reads as best-number-reads
-use Rattle.receiver.proofs.window.best_of.Reads as best-of-reads
 
--- src/decode.rt:93:9
 best-number-requires : tie.Need-best-number-requires
 best-number-requires c κs = search needs
 
--- src/decode.rt:95:9
 unread-requires : tie.Need-unread-requires
 unread-requires c κs = search needs
 
--- src/decode.rt:95:9
 returns : tie.Need-returns
 returns c = let a = c .before .before .before .before .args in best-refused (a .samples .now) (a .s) (c .before .before .best-number .ensures) (c .before .if1 .taken) (c .unread .ensures)
 
--- src/decode.rt:98:22
 slice-aggregate-best-of : tie.Need-slice-aggregate-best-of
 slice-aggregate-best-of c = search needs
 
--- src/decode.rt:98:5
 best-of-requires : tie.Need-best-of-requires
 best-of-requires c κs = let a = c .before .before .before .before .args in let t = best-taken (a .samples .now) (c .before .if1 .left) (a .s) (c .before .before .best-number .ensures) in (t .whole, t .settings, refl)
 
--- src/decode.rt:90:1
 returns-2 : tie.Need-returns-2
 returns-2 c = let a = c .before .before .before .before .before .before .args in best-done (a .samples .now) (a .s) (c .before .before .before .before .best-number .ensures) (c .before .before .before .if1 .left) (c .before .best-of .ensures .0)
 

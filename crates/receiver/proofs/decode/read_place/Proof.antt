@@ -4,29 +4,19 @@ use Rattle.receiver.proofs.Deciding.{read-taken, read-refused, read-don
 use borrow.Author.Needs.{needs}
 use Rattle.receiver.proofs.decode.read_place.Statement.{statement}
 use Rattle.receiver.proofs.decode.read_place.Tie as tie
-use Rattle.receiver.proofs.decode.read_place.Reads as reads
-use Rattle.receiver.proofs.decode.read_place.Lts as lts
-use Rattle.receiver.proofs.candidate.unread.Reads as unread-reads
-use Rattle.receiver.proofs.refusals.read_number.Reads as read-number-reads
-use Rattle.receiver.proofs.window.reading_at.Reads as reading-at-reads
 
--- src/decode.rt:82:9
 read-number-requires : tie.Need-read-number-requires
 read-number-requires c κs = search needs
 
--- src/decode.rt:84:9
 unread-requires : tie.Need-unread-requires
 unread-requires c κs = search needs
 
--- src/decode.rt:84:9
 returns : tie.Need-returns
 returns c = let a = c .before .before .before .before .args in read-refused (a .samples .now) (a .s) (a .place) (c .before .before .read-number .ensures) (c .before .if1 .taken) (c .unread .ensures)
 
--- src/decode.rt:86:5
 reading-at-requires : tie.Need-reading-at-requires
 reading-at-requires c κs = let a = c .before .before .before .args in let t = read-taken (a .samples .now) (c .if1 .left) (a .s) (a .place) (c .before .read-number .ensures) in (t .0 .whole, t .1, t .0 .settings)
 
--- src/decode.rt:79:1
 returns-2 : tie.Need-returns-2
 returns-2 c = let a = c .before .before .before .before .args in read-done (a .samples .now) (a .s) (a .place) (c .before .before .read-number .ensures) (c .before .if1 .left) (c .reading-at .ensures)
 

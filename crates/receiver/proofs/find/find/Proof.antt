@@ -18,12 +18,6 @@ use borrow.Author.Needs.{needs}
 use Rattle.receiver.proofs.Listed.{found-none, found-more, listed-finds}
 use Rattle.receiver.proofs.find.find.Statement.{statement}
 use Rattle.receiver.proofs.find.find.Tie as tie
-use Rattle.receiver.proofs.find.find.Reads as reads
-use Rattle.receiver.proofs.find.find.Lts as lts
-use Rattle.choice.proofs.best.choose.Reads as choose-reads
-use Rattle.receiver.proofs.candidate.nothing.Reads as nothing-reads
-use Rattle.receiver.proofs.find.place_at.Reads as place-at-reads
-use Rattle.receiver.proofs.find.read_at.Reads as read-at-reads
 
 abbrev Inv-loop : tie.InvT-loop
 Inv-loop samples symbols coherent noncoherent crcs others list codes count s held₀ q₀ held q = (q ≤ count) × (held ≡ survivorOf (over (candidateAt long s (windowOf 14 samples)) placeAt none (take q list)))
@@ -31,49 +25,38 @@ Inv-loop samples symbols coherent noncoherent crcs others list codes count s hel
 abbrev μ-loop : tie.MeasureT-loop
 μ-loop samples symbols coherent noncoherent crcs others list codes count s held₀ q₀ held q = count - q
 
--- src/find.rt:101:9
 nothing-requires : tie.Need-nothing-requires Inv-loop μ-loop
 nothing-requires c κs = search needs
 
--- src/find.rt:103:5
 loop-holds : tie.Need-loop-holds Inv-loop μ-loop
 loop-holds c =
     let s = c .before .before .before .before .before .before .before .before .before .args in
     (omega arith, c .nothing .ensures ∙ ap survivorOf (found-none (candidateAt long (s .s) (windowOf 14 (s .samples .now))) (s .list .now)))
 
--- src/find.rt:111:19
 mul-read-at : tie.Need-mul-read-at Inv-loop μ-loop
 mul-read-at c = let s = c .before .before .before .before .before .before .before .before .before .before .before in omega (arith, s .pre .1 .few, s .pre .1 .places, s .pre .1 .many)
 
--- src/find.rt:111:13
 mul-read-at-2 : tie.Need-mul-read-at-2 Inv-loop μ-loop
 mul-read-at-2 c = let s = c .before .before .before .before .before .before .before .before .before .before .before in omega (arith, s .pre .1 .few, s .pre .1 .places, s .pre .1 .many)
 
--- src/find.rt:111:13
 shared-slice-read-read-at : tie.Need-shared-slice-read-read-at Inv-loop μ-loop
 shared-slice-read-read-at c = let s = c .before .before .before .before .before .before .before .before .before .before .before .before in omega (arith, s .pre .1 .few, s .pre .1 .places, s .pre .1 .many)
 
--- src/find.rt:112:19
 mul-read-at-3 : tie.Need-mul-read-at-3 Inv-loop μ-loop
 mul-read-at-3 c = let s = c .before .before .before .before .before .before .before .before .before .before .before .before in omega (arith, s .pre .1 .few, s .pre .1 .places, s .pre .1 .many)
 
--- src/find.rt:112:19
 add-read-at : tie.Need-add-read-at Inv-loop μ-loop
 add-read-at c = let s = c .before .before .before .before .before .before .before .before .before .before .before .before in omega (arith, s .pre .1 .few, s .pre .1 .places, s .pre .1 .many)
 
--- src/find.rt:112:13
 mul-read-at-4 : tie.Need-mul-read-at-4 Inv-loop μ-loop
 mul-read-at-4 c = let s = c .before .before .before .before .before .before .before .before .before .before .before .before in omega (arith, s .pre .1 .few, s .pre .1 .places, s .pre .1 .many)
 
--- src/find.rt:112:13
 shared-slice-read-read-at-2 : tie.Need-shared-slice-read-read-at-2 Inv-loop μ-loop
 shared-slice-read-read-at-2 c = let s = c .before .before .before .before .before .before .before .before .before .before .before .before .before in omega (arith, s .pre .1 .few, s .pre .1 .places, s .pre .1 .many)
 
--- src/find.rt:114:22
 shared-slice-read-place-at : tie.Need-shared-slice-read-place-at Inv-loop μ-loop
 shared-slice-read-place-at c = let s = c .before .before .before .before .before .before .before .before .before .before .before .before .before .before in omega (arith, s .pre .1 .few, s .pre .1 .places, s .pre .1 .many)
 
--- src/find.rt:114:22
 cast-place-at : tie.Need-cast-place-at Inv-loop μ-loop
 cast-place-at c =
     let l = c .before .before .before .before .loop in
@@ -81,14 +64,12 @@ cast-place-at c =
     let h : l .q < s .args .count = omega (arith, c .before .before .before .loop-test .taken) in
     omega (arith, s .pre .1 .low (l .q) h)
 
--- src/find.rt:114:13
 place-at-requires : tie.Need-place-at-requires Inv-loop μ-loop
 place-at-requires c κs =
     let l = c .before .before .before .before .loop in
     let s = c .before .before .before .before .before .before .before .before .before .before .before .before .before .before in
     s .pre .1 .low (l .q) (omega (arith, c .before .before .before .loop-test .taken))
 
--- src/find.rt:104:13
 read-at-requires : tie.Need-read-at-requires Inv-loop μ-loop
 read-at-requires c κs =
     let l = c .before .before .before .before .before .loop in
@@ -103,19 +84,15 @@ read-at-requires c κs =
       listed-finds (s .args .s .level) (s .args .others .now) (getD (s .args .codes .now) (2 * l .q + 1) 0) k e (s .pre .1 .second (l .q) h),
     )
 
--- src/find.rt:116:9
 choose-requires : tie.Need-choose-requires Inv-loop μ-loop
 choose-requires c κs = search needs
 
--- src/find.rt:117:9
 add-q : tie.Need-add-q Inv-loop μ-loop
 add-q c = let s = c .before .before .before .before .before .before .before .before .before .before .before .before .before .before .before .before .before in omega (arith, s .pre .1 .few)
 
--- src/find.rt:103:5
 loop-less : tie.Need-loop-less Inv-loop μ-loop
 loop-less c = omega arith
 
--- src/find.rt:103:5
 loop-again : tie.Need-loop-again Inv-loop μ-loop
 loop-again c =
     let l = c .before .before .before .before .before .before .before .loop in
@@ -127,7 +104,6 @@ loop-again c =
           (c .before .read-at .ensures ∙ ap (λ (p : Place). survivorOf (f p)) (c .before .before .place-at .ensures)) (c .choose .ensures),
     )
 
--- src/find.rt:86:1
 returns : tie.Need-returns Inv-loop μ-loop
 returns c =
     let l = c .before .loop in

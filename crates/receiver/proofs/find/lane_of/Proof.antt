@@ -9,19 +9,13 @@ use Rattle.scan.proofs.Packing.{lane-done}
 use borrow.Author.Needs.{needs}
 use Rattle.receiver.proofs.find.lane_of.Statement.{statement}
 use Rattle.receiver.proofs.find.lane_of.Tie as tie
-use Rattle.receiver.proofs.find.lane_of.Reads as reads
-use Rattle.receiver.proofs.find.lane_of.Lts as lts
-use Rattle.scan.proofs.stream.find_stream.Reads as find-stream-reads
 
--- src/find.rt:31:29
 slice-aggregate-find-stream : tie.Need-slice-aggregate-find-stream
 slice-aggregate-find-stream c = search needs
 
--- src/find.rt:31:5
 find-stream-requires : tie.Need-find-stream-requires
 find-stream-requires c κs = search needs
 
--- src/find.rt:26:1
 returns : tie.Need-returns
 returns c =
     let s = c .before .before .before .before in

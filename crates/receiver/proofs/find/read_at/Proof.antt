@@ -10,97 +10,70 @@ use Rattle.receiver.proofs.Finding.{scanned-sizes, sums-length, starts,
 use borrow.Author.Needs.{needs}
 use Rattle.receiver.proofs.find.read_at.Statement.{statement}
 use Rattle.receiver.proofs.find.read_at.Tie as tie
-use Rattle.receiver.proofs.find.read_at.Reads as reads
-use Rattle.receiver.proofs.find.read_at.Lts as lts
-use Rattle.receiver.proofs.candidate.read_streams.Reads as read-streams-reads
-use Rattle.receiver.proofs.codes.bit_errors_by.Reads as bit-errors-by-reads
-use Rattle.receiver.proofs.find.lane_of.Reads as lane-of-reads
 
--- src/find.rt:53:16
 mul-lane : tie.Need-mul-lane
 mul-lane c = let s = c .before .before .before .before .before .before .before in let l = listed-gives 31 (s .args .place) (s .pre .1) in let z = scanned-sizes _ _ _ _ _ (s .pre .0 .scanned) in let y = sums-length _ _ _ _ _ _ (s .pre .0) in omega (arith, l .from, l .to, l .phase, l .symbol, z .first, z .second, z .first-crcs, z .second-crcs, y)
 
--- src/find.rt:53:16
 add-lane : tie.Need-add-lane
 add-lane c = let s = c .before .before .before .before .before .before .before in let l = listed-gives 31 (s .args .place) (s .pre .1) in let z = scanned-sizes _ _ _ _ _ (s .pre .0 .scanned) in let y = sums-length _ _ _ _ _ _ (s .pre .0) in omega (arith, l .from, l .to, l .phase, l .symbol, z .first, z .second, z .first-crcs, z .second-crcs, y)
 
--- src/find.rt:54:13
 mul-i : tie.Need-mul-i
 mul-i c = let s = c .before .before .before .before .before .before .before .before in let l = listed-gives 31 (s .args .place) (s .pre .1) in let z = scanned-sizes _ _ _ _ _ (s .pre .0 .scanned) in let y = sums-length _ _ _ _ _ _ (s .pre .0) in omega (arith, l .from, l .to, l .phase, l .symbol, z .first, z .second, z .first-crcs, z .second-crcs, y)
 
--- src/find.rt:54:13
 add-i : tie.Need-add-i
 add-i c = let s = c .before .before .before .before .before .before .before .before in let l = listed-gives 31 (s .args .place) (s .pre .1) in let z = scanned-sizes _ _ _ _ _ (s .pre .0 .scanned) in let y = sums-length _ _ _ _ _ _ (s .pre .0) in omega (arith, l .from, l .to, l .phase, l .symbol, z .first, z .second, z .first-crcs, z .second-crcs, y)
 
--- src/find.rt:54:13
 sub-i : tie.Need-sub-i
 sub-i c = let s = c .before .before .before .before .before .before .before .before in let l = listed-gives 31 (s .args .place) (s .pre .1) in let z = scanned-sizes _ _ _ _ _ (s .pre .0 .scanned) in let y = sums-length _ _ _ _ _ _ (s .pre .0) in omega (arith, l .from, l .to, l .phase, l .symbol, z .first, z .second, z .first-crcs, z .second-crcs, y)
 
--- src/find.rt:55:15
 mul-crc : tie.Need-mul-crc
 mul-crc c = let s = c .before .before .before .before .before .before .before .before in let l = listed-gives 31 (s .args .place) (s .pre .1) in let z = scanned-sizes _ _ _ _ _ (s .pre .0 .scanned) in let y = sums-length _ _ _ _ _ _ (s .pre .0) in omega (arith, l .from, l .to, l .phase, l .symbol, z .first, z .second, z .first-crcs, z .second-crcs, y)
 
--- src/find.rt:55:15
 shared-slice-read-crc : tie.Need-shared-slice-read-crc
 shared-slice-read-crc c = let s = c .before .before .before .before .before .before .before .before .before in let l = listed-gives 31 (s .args .place) (s .pre .1) in let z = scanned-sizes _ _ _ _ _ (s .pre .0 .scanned) in let y = sums-length _ _ _ _ _ _ (s .pre .0) in omega (arith, l .from, l .to, l .phase, l .symbol, z .first, z .second, z .first-crcs, z .second-crcs, y)
 
--- src/find.rt:56:17
 mul-other : tie.Need-mul-other
 mul-other c = let s = c .before .before .before .before .before .before .before .before .before in let l = listed-gives 31 (s .args .place) (s .pre .1) in let z = scanned-sizes _ _ _ _ _ (s .pre .0 .scanned) in let y = sums-length _ _ _ _ _ _ (s .pre .0) in omega (arith, l .from, l .to, l .phase, l .symbol, z .first, z .second, z .first-crcs, z .second-crcs, y)
 
--- src/find.rt:56:17
 shared-slice-read-other : tie.Need-shared-slice-read-other
 shared-slice-read-other c = let s = c .before .before .before .before .before .before .before .before .before .before in let l = listed-gives 31 (s .args .place) (s .pre .1) in let z = scanned-sizes _ _ _ _ _ (s .pre .0 .scanned) in let y = sums-length _ _ _ _ _ _ (s .pre .0) in omega (arith, l .from, l .to, l .phase, l .symbol, z .first, z .second, z .first-crcs, z .second-crcs, y)
 
--- src/find.rt:57:17
 lane-of-requires : tie.Need-lane-of-requires
 lane-of-requires c κs = let s = c .before .before .before .before .before .before .before .before .before .before in let l = listed-gives 31 (s .args .place) (s .pre .1) in let z = scanned-sizes _ _ _ _ _ (s .pre .0 .scanned) in (z .first, omega (arith, l .phase, l .symbol))
 
--- src/find.rt:58:18
 lane-of-requires-2 : tie.Need-lane-of-requires-2
 lane-of-requires-2 c κs = let s = c .before .before .before .before .before .before .before .before .before .before .before in let l = listed-gives 31 (s .args .place) (s .pre .1) in let z = scanned-sizes _ _ _ _ _ (s .pre .0 .scanned) in (z .second, omega (arith, l .phase, l .symbol))
 
--- src/find.rt:59:16
 mul-from : tie.Need-mul-from
 mul-from c = let s = c .before .before .before .before .before .before .before .before .before .before .before .before in let l = listed-gives 31 (s .args .place) (s .pre .1) in let z = scanned-sizes _ _ _ _ _ (s .pre .0 .scanned) in let y = sums-length _ _ _ _ _ _ (s .pre .0) in omega (arith, l .from, l .to, l .phase, l .symbol, z .first, z .second, z .first-crcs, z .second-crcs, y)
 
--- src/find.rt:60:14
 add-to : tie.Need-add-to
 add-to c = let s = c .before .before .before .before .before .before .before .before .before .before .before .before in let l = listed-gives 31 (s .args .place) (s .pre .1) in let z = scanned-sizes _ _ _ _ _ (s .pre .0 .scanned) in let y = sums-length _ _ _ _ _ _ (s .pre .0) in omega (arith, l .from, l .to, l .phase, l .symbol, z .first, z .second, z .first-crcs, z .second-crcs, y)
 
--- src/find.rt:63:9
 mul-read-streams : tie.Need-mul-read-streams
 mul-read-streams c = let s = c .before .before .before .before .before .before .before .before .before .before .before .before in let l = listed-gives 31 (s .args .place) (s .pre .1) in let z = scanned-sizes _ _ _ _ _ (s .pre .0 .scanned) in let y = sums-length _ _ _ _ _ _ (s .pre .0) in omega (arith, l .from, l .to, l .phase, l .symbol, z .first, z .second, z .first-crcs, z .second-crcs, y)
 
--- src/find.rt:63:9
 sub-read-streams : tie.Need-sub-read-streams
 sub-read-streams c = search needs
 
--- src/find.rt:63:9
 part-read-streams-start : tie.Need-part-read-streams-start
 part-read-streams-start c = search needs
 
--- src/find.rt:63:9
 part-read-streams-end : tie.Need-part-read-streams-end
 part-read-streams-end c = let s = c .before .before .before .before .before .before .before .before .before .before .before .before in let l = listed-gives 31 (s .args .place) (s .pre .1) in let z = scanned-sizes _ _ _ _ _ (s .pre .0 .scanned) in let y = sums-length _ _ _ _ _ _ (s .pre .0) in omega (arith, l .from, l .to, l .phase, l .symbol, z .first, z .second, z .first-crcs, z .second-crcs, y)
 
--- src/find.rt:64:9
 slice-aggregate-read-streams : tie.Need-slice-aggregate-read-streams
 slice-aggregate-read-streams c = search needs
 
--- src/find.rt:65:9
 slice-aggregate-read-streams-2 : tie.Need-slice-aggregate-read-streams-2
 slice-aggregate-read-streams-2 c = search needs
 
--- src/find.rt:68:9
 bit-errors-by-requires : tie.Need-bit-errors-by-requires
 bit-errors-by-requires c κs = search needs
 
--- src/find.rt:69:9
 bit-errors-by-requires-2 : tie.Need-bit-errors-by-requires-2
 bit-errors-by-requires-2 c κs = search needs
 
--- src/find.rt:61:5
 read-streams-requires : tie.Need-read-streams-requires
 read-streams-requires c κs =
     let s = c .before .before .before .before .before .before .before .before .before .before .before .before .before .before .before .before .before in
@@ -117,7 +90,6 @@ read-streams-requires c κs =
       lent-known (s .args .samples .now) (s .args .symbols .now) (s .args .coherent .now) (s .args .noncoherent .now) (s .args .crcs .now) (s .args .others .now) (s .pre .0) p (s .pre .1) a b (s .args .s .level) (8 * p .bit + (4 * p .symbol + p .phase) - 8) (s .args .c) (s .args .d) (starts p (s .pre .1) .lane) (s .pre .3) (s .pre .4) (c .before .bit-errors-by .ensures) (c .bit-errors-by2 .ensures) refl,
     )
 
--- src/find.rt:37:1
 returns : tie.Need-returns
 returns c =
     let s = c .before .before .before .before .before .before .before .before .before .before .before .before .before .before .before .before .before .before in

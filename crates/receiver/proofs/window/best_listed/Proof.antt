@@ -19,17 +19,10 @@ use Rattle.receiver.proofs.Listed.{found-none}
 use borrow.Author.Needs.{needs}
 use Rattle.receiver.proofs.window.best_listed.Statement.{statement}
 use Rattle.receiver.proofs.window.best_listed.Tie as tie
-use Rattle.receiver.proofs.window.best_listed.Reads as reads
-use Rattle.receiver.proofs.window.best_listed.Lts as lts
-use Rattle.kernels.proofs.symbols.accumulate_symbols.Reads as accumulate-symbols-reads
-use Rattle.receiver.proofs.candidate.nothing.Reads as nothing-reads
-use Rattle.receiver.proofs.find.find.Reads as find-reads
 
--- src/window.rt:53:9
 nothing-requires : tie.Need-nothing-requires
 nothing-requires c κs = search needs
 
--- src/window.rt:53:9
 returns : tie.Need-returns
 returns c =
     let s = c .before .before .before .before .before .before .before .before .before .before in
@@ -40,22 +33,18 @@ returns c =
       record { size = s .pre .3; made = λ z. absurd (omega (arith, ap (λ (x : Survivor). x .number) e)) },
     )
 
--- src/window.rt:55:5
 accumulate-symbols-requires : tie.Need-accumulate-symbols-requires
 accumulate-symbols-requires c κs = search needs
 
--- src/window.rt:56:5
 find-requires : tie.Need-find-requires
 find-requires c κs =
     let s = c .before .before .before .before .before .before .before .before .before .before .before .before .before .before in
     let e = ap (λ (x : ℕ × List Float). x .1) (c .before .before .before .accumulate-symbols .ensures ∙ accumulated-done (s .args .samples .now) _ (s .pre .0 .whole) (s .pre .3)) in
     (record { scanned = s .pre .0; sums = e }, s .pre .1, s .pre .2)
 
--- src/window.rt:37:1
 same-length : tie.Need-same-length
 same-length c = search needs
 
--- src/window.rt:37:1
 returns-2 : tie.Need-returns-2
 returns-2 c =
     let s = c .before .before .before .before .before .before .before .before .before .before .before .before .before .before .before in

@@ -7,28 +7,19 @@ use Rattle.receiver.proofs.Stages.{exact-front, exact-listing, exact-be
 use borrow.Author.Needs.{needs}
 use Rattle.receiver.proofs.window.exact_best.Statement.{statement}
 use Rattle.receiver.proofs.window.exact_best.Tie as tie
-use Rattle.receiver.proofs.window.exact_best.Reads as reads
-use Rattle.receiver.proofs.window.exact_best.Lts as lts
-use Rattle.receiver.proofs.window.best_listed.Reads as best-listed-reads
-use Rattle.scan.proofs.list.list_exact.Reads as list-exact-reads
 
--- src/window.rt:84:66
 slice-aggregate-list-exact : tie.Need-slice-aggregate-list-exact
 slice-aggregate-list-exact c = search needs
 
--- src/window.rt:84:9
 list-exact-requires : tie.Need-list-exact-requires
 list-exact-requires c κs = search needs
 
--- src/window.rt:93:9
 slice-aggregate-best-listed : tie.Need-slice-aggregate-best-listed
 slice-aggregate-best-listed c = search needs
 
--- src/window.rt:94:9
 slice-aggregate-best-listed-2 : tie.Need-slice-aggregate-best-listed-2
 slice-aggregate-best-listed-2 c = search needs
 
--- src/window.rt:86:5
 best-listed-requires : tie.Need-best-listed-requires
 best-listed-requires c κs =
     let s = c .before .before .before .before .before .before .before .before .before .before .before .before in
@@ -36,11 +27,9 @@ best-listed-requires c κs =
     let f = exact-front (a .samples .now) (a .coherent .now) (a .noncoherent .now) (a .crcs .now) (a .others .now) (s .pre .0) (replicate 248 0) refl (c .before .before .before .before .list-exact .ensures) in
     (s .pre .0, exact-listing (a .samples .now) (a .coherent .now) (a .noncoherent .now) (a .crcs .now) (a .others .now) (s .pre .0) f, first-settings (a .s) (s .pre .1), s .pre .2)
 
--- src/window.rt:71:1
 same-length : tie.Need-same-length
 same-length c = search needs
 
--- src/window.rt:71:1
 returns : tie.Need-returns
 returns c =
     let s = c .before .before .before .before .before .before .before .before .before .before .before .before .before .before .before in

@@ -9,40 +9,28 @@ use Rattle.receiver.proofs.Stages.{first-stage, only-stage}
 use borrow.Author.Needs.{needs}
 use Rattle.receiver.proofs.window.in_stages.Statement.{statement}
 use Rattle.receiver.proofs.window.in_stages.Tie as tie
-use Rattle.receiver.proofs.window.in_stages.Reads as reads
-use Rattle.receiver.proofs.window.in_stages.Lts as lts
-use Rattle.receiver.proofs.window.exact_best.Reads as exact-best-reads
-use Rattle.receiver.proofs.window.repaired_best.Reads as repaired-best-reads
 
--- src/window.rt:148:9
 exact-best-requires : tie.Need-exact-best-requires
 exact-best-requires c κs = search needs
 
--- src/window.rt:150:9
 same-length : tie.Need-same-length
 same-length c = search needs
 
--- src/window.rt:150:9
 returns : tie.Need-returns
 returns c = let a = c .before .before .before .before .before .before .before .before .before .before .before .before .args in let e = c .before .before .before .before .exact-best .ensures in (first-stage (a .s) (windowOf 14 (a .samples .now)) (e .0) (c .if1 .taken), e .1)
 
--- src/window.rt:153:9
 same-length-2 : tie.Need-same-length-2
 same-length-2 c = search needs
 
--- src/window.rt:153:9
 returns-2 : tie.Need-returns-2
 returns-2 c = let a = c .before .before .before .before .before .before .before .before .before .before .before .before .before .before .args in let e = c .before .before .before .before .before .before .exact-best .ensures in (only-stage (a .s) (windowOf 14 (a .samples .now)) (c .if2 .taken) (e .0), e .1)
 
--- src/window.rt:155:5
 repaired-best-requires : tie.Need-repaired-best-requires
 repaired-best-requires c κs = let s = c .before .before .before .before .before .before .before .before .before .before .before .before .before .before .before in let a = s .args in let e = c .before .before .before .before .before .before .before .exact-best .ensures in (s .pre .0, s .pre .1, read-none (best long (atLevel 0 (a .s)) (windowOf 14 (a .samples .now))) (e .0) (c .before .before .before .if1 .left), e .1 .size)
 
--- src/window.rt:136:1
 same-length-3 : tie.Need-same-length-3
 same-length-3 c = search needs
 
--- src/window.rt:136:1
 returns-3 : tie.Need-returns-3
 returns-3 c = search needs
 

@@ -12,114 +12,82 @@ use Rattle.receiver.proofs.Repaired.{two-codes, both-asked}
 use borrow.Author.Needs.{needs}
 use Rattle.receiver.proofs.window.reading_at.Statement.{statement}
 use Rattle.receiver.proofs.window.reading_at.Tie as tie
-use Rattle.receiver.proofs.window.reading_at.Reads as reads
-use Rattle.receiver.proofs.window.reading_at.Lts as lts
-use Rattle.receiver.proofs.find.read_at.Reads as read-at-reads
-use Rattle.receiver.proofs.window.symbols_of.Reads as symbols-of-reads
-use Rattle.repairs.proofs.rows.bit_errors_from_crc24s.Reads as bit-errors-from-crc24s-reads
-use Rattle.scan.proofs.window.scan.Reads as scan-reads
 
--- src/window.rt:153:19
 slice-aggregate-scan : tie.Need-slice-aggregate-scan
 slice-aggregate-scan c = search needs
 
--- src/window.rt:153:34
 slice-aggregate-scan-2 : tie.Need-slice-aggregate-scan-2
 slice-aggregate-scan-2 c = search needs
 
--- src/window.rt:153:52
 slice-aggregate-scan-3 : tie.Need-slice-aggregate-scan-3
 slice-aggregate-scan-3 c = search needs
 
--- src/window.rt:153:63
 slice-aggregate-scan-4 : tie.Need-slice-aggregate-scan-4
 slice-aggregate-scan-4 c = search needs
 
--- src/window.rt:153:5
 scan-requires : tie.Need-scan-requires
 scan-requires c κs = search needs
 
--- src/window.rt:154:13
 mul-i : tie.Need-mul-i
 mul-i c = let s = c .before .before .before .before .before .before .before .before .before .before .before in let l = listed-gives 31 (s .args .place) (s .pre .1) in omega (arith, l .from, l .to, l .phase, l .symbol)
 
--- src/window.rt:154:29
 mul-i-2 : tie.Need-mul-i-2
 mul-i-2 c = let s = c .before .before .before .before .before .before .before .before .before .before .before .before in let l = listed-gives 31 (s .args .place) (s .pre .1) in omega (arith, l .from, l .to, l .phase, l .symbol)
 
--- src/window.rt:154:13
 add-i : tie.Need-add-i
 add-i c = let s = c .before .before .before .before .before .before .before .before .before .before .before .before in let l = listed-gives 31 (s .args .place) (s .pre .1) in omega (arith, l .from, l .to, l .phase, l .symbol)
 
--- src/window.rt:154:13
 add-i-2 : tie.Need-add-i-2
 add-i-2 c = let s = c .before .before .before .before .before .before .before .before .before .before .before .before .before in let l = listed-gives 31 (s .args .place) (s .pre .1) in omega (arith, l .from, l .to, l .phase, l .symbol)
 
--- src/window.rt:154:13
 sub-i : tie.Need-sub-i
 sub-i c = let s = c .before .before .before .before .before .before .before .before .before .before .before .before .before in let l = listed-gives 31 (s .args .place) (s .pre .1) in omega (arith, l .from, l .to, l .phase, l .symbol)
 
--- src/window.rt:155:17
 mul-read-at : tie.Need-mul-read-at
 mul-read-at c = let s = c .before .before .before .before .before .before .before .before .before .before .before .before .before in let l = listed-gives 31 (s .args .place) (s .pre .1) in omega (arith, l .from, l .to, l .phase, l .symbol)
 
--- src/window.rt:155:17
 array-read-read-at : tie.Need-array-read-read-at
 array-read-read-at c = let s = c .before .before .before .before .before .before .before .before .before .before .before .before .before in let l = listed-gives 31 (s .args .place) (s .pre .1) in omega (arith, l .from, l .to, l .phase, l .symbol)
 
--- src/window.rt:155:26
 mul-read-at-2 : tie.Need-mul-read-at-2
 mul-read-at-2 c = let s = c .before .before .before .before .before .before .before .before .before .before .before .before .before in let l = listed-gives 31 (s .args .place) (s .pre .1) in omega (arith, l .from, l .to, l .phase, l .symbol)
 
--- src/window.rt:155:26
 array-read-read-at-2 : tie.Need-array-read-read-at-2
 array-read-read-at-2 c = let s = c .before .before .before .before .before .before .before .before .before .before .before .before .before in let l = listed-gives 31 (s .args .place) (s .pre .1) in omega (arith, l .from, l .to, l .phase, l .symbol)
 
--- src/window.rt:157:37
 slice-aggregate-bit-errors-from-crc24s : tie.Need-slice-aggregate-bit-errors-from-crc24s
 slice-aggregate-bit-errors-from-crc24s c = search needs
 
--- src/window.rt:157:44
 slice-aggregate-bit-errors-from-crc24s-2 : tie.Need-slice-aggregate-bit-errors-from-crc24s-2
 slice-aggregate-bit-errors-from-crc24s-2 c = search needs
 
--- src/window.rt:157:5
 bit-errors-from-crc24s-requires : tie.Need-bit-errors-from-crc24s-requires
 bit-errors-from-crc24s-requires c κs = search needs
 
--- src/window.rt:158:19
 symbols-of-requires : tie.Need-symbols-of-requires
 symbols-of-requires c κs = search needs
 
--- src/window.rt:161:9
 slice-aggregate-read-at : tie.Need-slice-aggregate-read-at
 slice-aggregate-read-at c = search needs
 
--- src/window.rt:162:9
 slice-aggregate-read-at-2 : tie.Need-slice-aggregate-read-at-2
 slice-aggregate-read-at-2 c = search needs
 
--- src/window.rt:163:9
 slice-aggregate-read-at-3 : tie.Need-slice-aggregate-read-at-3
 slice-aggregate-read-at-3 c = search needs
 
--- src/window.rt:164:9
 slice-aggregate-read-at-4 : tie.Need-slice-aggregate-read-at-4
 slice-aggregate-read-at-4 c = search needs
 
--- src/window.rt:165:9
 slice-aggregate-read-at-5 : tie.Need-slice-aggregate-read-at-5
 slice-aggregate-read-at-5 c = search needs
 
--- src/window.rt:166:9
 array-read-read-at-3 : tie.Need-array-read-read-at-3
 array-read-read-at-3 c = search needs
 
--- src/window.rt:167:9
 array-read-read-at-4 : tie.Need-array-read-read-at-4
 array-read-read-at-4 c = search needs
 
--- src/window.rt:159:5
 read-at-requires : tie.Need-read-at-requires
 read-at-requires c κs =
     let s = c .before .before .before .before .before .before .before .before .before .before .before .before .before .before .before .before .before .before .before .before .before .before .before in
@@ -137,7 +105,6 @@ read-at-requires c κs =
       k .second,
     )
 
--- src/window.rt:145:1
 returns : tie.Need-returns
 returns c = search needs
 

@@ -8,32 +8,22 @@ use Rattle.receiver.proofs.Repaired.{repaired-taken, repaired-best}
 use borrow.Author.Needs.{needs}
 use Rattle.receiver.proofs.window.repaired_best.Statement.{statement}
 use Rattle.receiver.proofs.window.repaired_best.Tie as tie
-use Rattle.receiver.proofs.window.repaired_best.Reads as reads
-use Rattle.receiver.proofs.window.repaired_best.Lts as lts
-use Rattle.receiver.proofs.window.best_listed.Reads as best-listed-reads
-use Rattle.sieve.proofs.find_repairable.Reads as find-repairable-reads
 
--- src/window.rt:120:57
 slice-aggregate-find-repairable : tie.Need-slice-aggregate-find-repairable
 slice-aggregate-find-repairable c = search needs
 
--- src/window.rt:120:68
 slice-aggregate-find-repairable-2 : tie.Need-slice-aggregate-find-repairable-2
 slice-aggregate-find-repairable-2 c = search needs
 
--- src/window.rt:120:9
 find-repairable-requires : tie.Need-find-repairable-requires
 find-repairable-requires c κs = search needs
 
--- src/window.rt:128:9
 slice-aggregate-best-listed : tie.Need-slice-aggregate-best-listed
 slice-aggregate-best-listed c = search needs
 
--- src/window.rt:129:9
 slice-aggregate-best-listed-2 : tie.Need-slice-aggregate-best-listed-2
 slice-aggregate-best-listed-2 c = search needs
 
--- src/window.rt:121:5
 best-listed-requires : tie.Need-best-listed-requires
 best-listed-requires c κs =
     let s = c .before .before .before .before .before .before .before .before .before .before .before .before .before .before in
@@ -43,11 +33,9 @@ best-listed-requires c κs =
     let t = repaired-taken (a .s .level) (a .crcs .now) (a .others .now) (replicate 248 0) (replicate 496 0) (z .first-crcs) (z .second-crcs) refl refl low (c .before .before .before .before .before .find-repairable .ensures) in
     (s .pre .0, t .listing, s .pre .1, s .pre .3)
 
--- src/window.rt:106:1
 same-length : tie.Need-same-length
 same-length c = search needs
 
--- src/window.rt:106:1
 returns : tie.Need-returns
 returns c =
     let s = c .before .before .before .before .before .before .before .before .before .before .before .before .before .before .before .before .before in

@@ -1,6 +1,6 @@
 -- Laws of the two powers.
 --     pulse-is, empty-is        the term of a bit, as the code computes it
---     power-refused             the answer where a length is wrong
+--     pulse-more                the power of one bit more
 --     power-done, noise-done    the answers where nothing is refused
 -- Assumes nothing.
 use mathlib.Core.Path.{_≡_, ap, _∙_}
@@ -11,10 +11,12 @@ use native.Mathlib.Omega.{arith}
 use lib.Dec.{lit<}
 use borrow.Author.Tests.{eq-eqb}
 use lib.ListN.{length, getD}
-use lib.Ieee.{Float}
+use lib.Ieee.{Float, binary32, add}
 use Rattle.lists.specs.Bits.{bitAt}
 use Rattle.lists.specs.Told.{done}
 use Rattle.math.specs.Complex.{plusOf, normOf}
+use Rattle.math.specs.Sum.{total}
+use Rattle.math.proofs.Sums.{total-more}
 use Rattle.kernels.specs.Symbols.{complexAt}
 use Rattle.kernels.specs.Powers.{pulseNorm, middle, emptyNorm, powerOf, noiseOf, powerNumber, powerAt, noisePowerAt}
 
@@ -34,6 +36,13 @@ module _ (xs : List Float) (message : List ℕ) (k m : ℕ) {b : ℕ} where
       → n ≡ pulseNorm xs message (8 * k + m)
   unfolding pulseNorm
   pulse-is h e g = g ∙ ap (λ (x : ℕ). normOf (complexAt xs (2 * (8 * k + m) + (1 - x)))) (e ∙ bit-there message k m h)
+
+  -- the power of one bit more
+  pub pulse-more : {n p : Float} → m < 8 → b ≡ getD message k 0 / 2 ^ (7 - m) % 2 → n ≡ normOf (complexAt xs (2 * (8 * k + m) + (1 - b)))
+      → p ≡ total (pulseNorm xs message) (8 * k + m) → add binary32 p n ≡ total (pulseNorm xs message) (8 * k + (m + 1))
+  pulse-more h e g q =
+      let u : 8 * k + (m + 1) ≡ 8 * k + m + 1 = omega arith in
+      rw u (total-more _ _ q (pulse-is h e g))
 
   pub empty-is : {n : Float} → m < 8 → b ≡ getD message k 0 / 2 ^ (7 - m) % 2
       → n ≡ normOf (plusOf (complexAt xs (8 * (8 * k + m) + 4 * b + 1)) (complexAt xs (8 * (8 * k + m) + 4 * b + 1 + 1)))

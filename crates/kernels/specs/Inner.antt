@@ -4,20 +4,18 @@ use mathlib.Core.List.{List}
 use Prim.Native.Nat.{ℕ, _+_, _*_, _/_, _%_, _^_}
 use lib.Bits.{bitOr}
 use lib.ListN.{getD}
-use lib.Ieee.{Float}
+use lib.Ieee.{Float, binary32, nan, add}
 use Rattle.lists.specs.From.{tabulate}
+use Rattle.floats.specs.Numbers.{zeroF}
 use Rattle.math.specs.Complex.{normOf}
 use Rattle.place.specs.declared.Slicer.{Slicer}
 use Rattle.kernels.specs.Symbols.{complexAt, sumFrom, partOf}
 use Rattle.kernels.specs.Slices.{slicedBit}
 
--- the sums of four samples, one from each of the 32 of a block on: number i is part i % 2 of sum i / 2
-unfoldable pub runningSum : List Float → ℕ → ℕ → Float
-runningSum samples block i = partOf (i % 2) (sumFrom samples (32 * block + i / 2) 4)
-
--- `accumulate_symbols` takes the symbols from these rows
-unfoldable pub runningSums : List Float → ℕ → List Float
-runningSums samples block = tabulate 64 (runningSum samples block)
+-- number i of a row and the next three of its part, one after the other
+unfoldable pub fourFrom : List Float → ℕ → Float
+fourFrom xs i =
+    add binary32 (add binary32 (add binary32 (add binary32 zeroF (getD xs i nan)) (getD xs (i + 2) nan)) (getD xs (i + 4) nan)) (getD xs (i + 6) nan)
 
 -- the norms of a row
 unfoldable pub normsOf : List Float → List Float

@@ -2,4 +2,5 @@ pub mod Symbols
 pub mod Slices
 pub mod Powers
 pub mod Both
+pub mod Around
 pub mod Inner

@@ -1,4 +1,5 @@
 // From samples to symbols to bits, and the powers of a message.
+pub mod around;
 pub mod both;
 mod complex;
 mod norms;

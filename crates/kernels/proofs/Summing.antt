@@ -8,7 +8,7 @@
 --     symbol-stands         where a symbol stands
 --     complex-part          complex numbers of a part of a row
 --     row-symbol            a row by itself holds the symbols of its phase
---     summed-done, set-done, accumulated-done      the answers where nothing is refused
+--     summed-done, set-done, accumulated-done, sums-made      the answers where nothing is refused
 -- Assumes nothing.
 use mathlib.Core.Path.{_≡_, sym, ap, _∙_}
 use mathlib.Core.List.{List}
@@ -202,6 +202,9 @@ row-symbol s k n hk hn =
 pub summed-done : (samples sums : List Float) → length samples ≡ 2310 → length sums ≡ 2304 → summed samples sums ≡ (0, sumsOf samples)
 unfolding summed
 summed-done samples sums a b = simp (eq-eqb _ _ a, eq-eqb _ _ b)
+
+pub sums-made : (samples sums : List Float) {r : ℕ} {now : List Float} → length samples ≡ 2310 → length sums ≡ 2304 → (r, now) ≡ summed samples sums → now ≡ sumsOf samples
+sums-made samples sums a b e = ap (λ (p : ℕ × List Float). p .1) (e ∙ summed-done samples sums a b)
 
 pub set-done : (sums symbols : List Float) → length sums ≡ 2304 → length symbols ≡ 2304 → setOut sums symbols ≡ (0, symbolsIn sums)
 unfolding setOut

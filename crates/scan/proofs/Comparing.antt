@@ -12,6 +12,7 @@ use lib.ListN.{length, getD}
 use lib.Ieee.{Float, lt, nan}
 use Rattle.lists.specs.Bits.{asBit}
 use Rattle.lists.proofs.Table.{Done}
+use Rattle.kernels.specs.Symbols.{sumsOf}
 use Rattle.place.specs.declared.Slicer.the-variants.{Coherent, Noncoherent}
 use Rattle.scan.specs.Flat.{bitsFrom, crcsIn, scanned}
 use Rattle.scan.specs.Inner.{bitIn}
@@ -27,8 +28,9 @@ no-bit row i h = rw (le-ltb (i + 4) 1152 (omega arith))
 pub done-at : {A : Type 0} {d : A} (f : ℕ → A) (n : ℕ) (xs : List A) (i : ℕ) {j : ℕ} → i ≡ j → Done d f n xs i → Done d f n xs j
 done-at {d = d} f n xs i e r = subst (λ (m : ℕ). Done d f n xs m) e r
 
-pub scanned-done : (samples : List Float) (coherent noncoherent crcs others : List ℕ) → length samples ≡ 2310 → length coherent ≡ 1152 → length noncoherent ≡ 1152
-    → length crcs ≡ 248 → length others ≡ 248 → scanned samples coherent noncoherent crcs others
-    ≡ (0, bitsFrom Coherent samples, bitsFrom Noncoherent samples, crcsIn 14 (bitsFrom Coherent samples) 248, crcsIn 14 (bitsFrom Noncoherent samples) 248)
+pub scanned-done : (samples sums : List Float) (coherent noncoherent crcs others : List ℕ) → length samples ≡ 2310 → length sums ≡ 2304 → length coherent ≡ 1152
+    → length noncoherent ≡ 1152 → length crcs ≡ 248 → length others ≡ 248 → scanned samples sums coherent noncoherent crcs others
+    ≡ (0, sumsOf samples, bitsFrom Coherent samples, bitsFrom Noncoherent samples, crcsIn 14 (bitsFrom Coherent samples) 248, crcsIn 14 (bitsFrom Noncoherent samples) 248)
 unfolding scanned
-scanned-done samples coherent noncoherent crcs others a b c d e = simp (eq-eqb _ _ a, eq-eqb _ _ b, eq-eqb _ _ c, eq-eqb _ _ d, eq-eqb _ _ e)
+scanned-done samples sums coherent noncoherent crcs others a b c d e f =
+    simp (eq-eqb _ _ a, eq-eqb _ _ b, eq-eqb _ _ c, eq-eqb _ _ d, eq-eqb _ _ e, eq-eqb _ _ f)

@@ -28,54 +28,29 @@ use Rattle.place.specs.declared.Slicer.{Slicer}
 use Rattle.place.specs.declared.Slicer.the-variants.{Coherent, Noncoherent}
 use Rattle.place.specs.All.{placeAt}
 use Rattle.place.specs.Step.{sampleStart}
+use Rattle.math.specs.declared.Complex.{Complex}
 use Rattle.math.specs.Complex.{normOf}
-use Rattle.kernels.specs.Symbols.{complexAt, sumFrom, symbolOf}
+use Rattle.kernels.specs.Symbols.{complexAt, sumFrom, sumsOf, symbolOf}
 use Rattle.kernels.specs.Slices.{greaterBy, slicedBit, sliced}
-use Rattle.kernels.proofs.Summing.{row-symbol}
+use Rattle.kernels.proofs.Summing.{row-symbol, sum-stands}
 use Rattle.kernels.proofs.Slicing.{bit-sliced}
 use Rattle.streams.specs.Streams.{messageAt}
 use Rattle.search.specs.Seen.{row, stream, bitsAt}
 use Rattle.scan.specs.Flat.{startBit, bitsFrom, messageFrom, crcIn, crcsIn}
 use Rattle.scan.specs.Sieve.{laneOf}
 use Rattle.scan.specs.Lanes.{laneBit, laneBytes}
-use Rattle.scan.specs.Inner.{fourFrom, sumsOf, realsOf, normsOf, bitIn, bitsOf, Digits}
+use Rattle.scan.specs.Inner.{realsOf, normsOf, bitIn, bitsOf, Digits}
 
 -- ---- sums by starting sample
 
 module _ (s : List Float) (j : ℕ) where
-  four-re : fourFrom s (2 * j) ≡ sumFrom s j 4 .re
-  unfolding fourFrom sumFrom complexAt
-  four-re =
-      let z : j + 0 ≡ j = omega arith in
-      let a : 2 * j + 2 ≡ 2 * (j + 1) = omega arith in
-      let b : 2 * j + 4 ≡ 2 * (j + 2) = omega arith in
-      let d : 2 * j + 6 ≡ 2 * (j + 3) = omega arith in
-      rw (z, a, b, d)
-
-  four-im : fourFrom s (2 * j + 1) ≡ sumFrom s j 4 .im
-  unfolding fourFrom sumFrom complexAt
-  four-im =
-      let z : j + 0 ≡ j = omega arith in
-      let a : 2 * j + 1 + 2 ≡ 2 * (j + 1) + 1 = omega arith in
-      let b : 2 * j + 1 + 4 ≡ 2 * (j + 2) + 1 = omega arith in
-      let d : 2 * j + 1 + 6 ≡ 2 * (j + 3) + 1 = omega arith in
-      rw (z, a, b, d)
-
-  sum-re : j < 1152 → getD (sumsOf s) (2 * j) nan ≡ sumFrom s j 4 .re
-  unfolding sumsOf
-  sum-re h = getD-tabulate 2304 (fourFrom s) (2 * j) nan (omega arith) ∙ four-re
-
-  sum-im : j < 1152 → getD (sumsOf s) (2 * j + 1) nan ≡ sumFrom s j 4 .im
-  unfolding sumsOf
-  sum-im h = getD-tabulate 2304 (fourFrom s) (2 * j + 1) nan (omega arith) ∙ four-im
-
   real-at : j < 1152 → getD (realsOf (sumsOf s)) j nan ≡ sumFrom s j 4 .re
-  unfolding realsOf
-  real-at h = getD-tabulate 1152 (λ (i : ℕ). getD (sumsOf s) (2 * i) nan) j nan h ∙ sum-re h
+  unfolding realsOf complexAt
+  real-at h = getD-tabulate 1152 (λ (i : ℕ). getD (sumsOf s) (2 * i) nan) j nan h ∙ ap (λ (z : Complex). z .re) (sum-stands s j h)
 
   norm-at : j < 1152 → getD (normsOf (sumsOf s)) j nan ≡ normOf (sumFrom s j 4)
-  unfolding normsOf complexAt
-  norm-at h = getD-tabulate 1152 (λ (i : ℕ). normOf (complexAt (sumsOf s) i)) j nan h ∙ rw (sum-re h, sum-im h)
+  unfolding normsOf
+  norm-at h = getD-tabulate 1152 (λ (i : ℕ). normOf (complexAt (sumsOf s) i)) j nan h ∙ ap normOf (sum-stands s j h)
 
 -- the row that a slicer compares
 rowOf : Slicer → List Float → List Float

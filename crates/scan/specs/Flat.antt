@@ -12,7 +12,7 @@ use Rattle.lists.specs.Bits.{asBit, packed}
 use Rattle.annex10.specs.Remainder.{remainder}
 use Rattle.place.specs.declared.Slicer.{Slicer}
 use Rattle.place.specs.declared.Slicer.the-variants.{Coherent, Noncoherent}
-use Rattle.kernels.specs.Symbols.{sumFrom}
+use Rattle.kernels.specs.Symbols.{sumFrom, sumsOf}
 use Rattle.kernels.specs.Slices.{greaterBy}
 
 -- the bit that starts with sample p: the sum of four samples from p on against that from p + 4 on; 0 where there is no second
@@ -34,12 +34,12 @@ crcIn n bits i = remainder (messageFrom n bits (8 + i))
 unfoldable pub crcsIn : ℕ → List ℕ → ℕ → List ℕ
 crcsIn n bits m = tabulate m (crcIn n bits)
 
--- what `scan` answers, and what stands in the four memories then: 2,310 numbers, else 2; 1,152 bits and 248 remainders for each slicer,
--- else 3
-unfoldable pub scanned : List Float → List ℕ → List ℕ → List ℕ → List ℕ → ℕ × List ℕ × List ℕ × List ℕ × List ℕ
-scanned samples coherent noncoherent crcs others =
+-- what `scan` answers, and what stands in the five memories then: 2,310 numbers, else 2; 2,304 sums, 1,152 bits and 248 remainders for
+-- each slicer, else 3
+unfoldable pub scanned : List Float → List Float → List ℕ → List ℕ → List ℕ → List ℕ → ℕ × List Float × List ℕ × List ℕ × List ℕ × List ℕ
+scanned samples sums coherent noncoherent crcs others =
     cond (eqb (length samples) 2310)
-    (cond (eqb (length coherent) 1152 && eqb (length noncoherent) 1152 && eqb (length crcs) 248 && eqb (length others) 248)
-    (0, bitsFrom Coherent samples, bitsFrom Noncoherent samples, crcsIn 14 (bitsFrom Coherent samples) 248, crcsIn 14 (bitsFrom Noncoherent samples) 248)
-    (3, coherent, noncoherent, crcs, others))
-    (2, coherent, noncoherent, crcs, others)
+    (cond (eqb (length sums) 2304 && eqb (length coherent) 1152 && eqb (length noncoherent) 1152 && eqb (length crcs) 248 && eqb (length others) 248)
+    (0, sumsOf samples, bitsFrom Coherent samples, bitsFrom Noncoherent samples, crcsIn 14 (bitsFrom Coherent samples) 248, crcsIn 14 (bitsFrom Noncoherent samples) 248)
+    (3, sums, coherent, noncoherent, crcs, others))
+    (2, sums, coherent, noncoherent, crcs, others)

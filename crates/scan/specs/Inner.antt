@@ -7,10 +7,9 @@ use Prim.Native.Nat.{ℕ, zero, suc, _+_, _-_, _*_, _<_}
 use lib.Bits.{bitXor, bitOr}
 use lib.Dec.{ltb, eqb}
 use lib.ListN.{length, getD, replicate}
-use lib.Ieee.{Float, binary32, nan, lt, add}
+use lib.Ieee.{Float, nan, lt}
 use Rattle.lists.specs.From.{tabulate}
 use Rattle.lists.specs.Bits.{asBit}
-use Rattle.floats.specs.Numbers.{zeroF}
 use Rattle.math.specs.Complex.{normOf}
 use Rattle.annex10.specs.Remainder.{bring, divide}
 use Rattle.kernels.specs.Symbols.{complexAt}
@@ -18,15 +17,6 @@ use Rattle.scan.specs.Sieve.{laneOf}
 use Rattle.scan.specs.Exact.{cleanAt}
 
 -- ---- rows
-
--- the sum of four numbers of one part, the first of them number i
-unfoldable pub fourFrom : List Float → ℕ → Float
-fourFrom samples i =
-    add binary32 (add binary32 (add binary32 (add binary32 zeroF (getD samples i nan)) (getD samples (i + 2) nan)) (getD samples (i + 4) nan)) (getD samples (i + 6) nan)
-
--- such a sum for each number, re then im
-unfoldable pub sumsOf : List Float → List Float
-sumsOf samples = tabulate 2304 (fourFrom samples)
 
 -- the real parts and the norms of sums
 unfoldable pub realsOf : List Float → List Float

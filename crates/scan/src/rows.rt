@@ -1,17 +1,7 @@
-// Sums of four samples, one for each sample that they can start with.
+// What the slicers compare, one for each sample that a sum of four can start with.
 ghost use mathlib.Core.Path.{_≡_};
 ghost use lib.ListN.{length};
-ghost use Rattle.scan.specs.Inner.{sumsOf, realsOf, normsOf};
-
-// A sum for each number of the samples: itself and the next three of its part.
-pub fn find_sums(samples: &[f32], sums: &mut [f32])
-    requires { ⌜ (length (now samples) ≡ 2310) × (length (now sums) ≡ 2304) ⌝ }
-    ensures { λ _. ⌜ now (sums .exit) ≡ sumsOf (now (samples .entry)) ⌝ }
-{
-    for i in 0..2304 {
-        sums[i] = 0.0 + samples[i] + samples[i + 2] + samples[i + 4] + samples[i + 6];
-    }
-}
+ghost use Rattle.scan.specs.Inner.{realsOf, normsOf};
 
 // The real part and the norm of each sum.
 pub fn find_rows(sums: &[f32], reals: &mut [f32], norms: &mut [f32])

@@ -67,32 +67,28 @@ bit-of-requires : tie.Need-bit-of-requires Inv-loop2 μ-loop2 Inv-loop μ-loop
 bit-of-requires c κs = search needs
 
 pulse-norm-requires : tie.Need-pulse-norm-requires Inv-loop2 μ-loop2 Inv-loop μ-loop
-pulse-norm-requires c κs =
-    (
+pulse-norm-requires c κs = (
   omega (arith, c .before .before .before .before .before .before .before .before .before .before .if1 .left, c .before .before .before .before .loop-test .taken, c .before .loop2-test .taken),
   omega (arith, c .before .before .before .before .loop-test .taken, c .before .loop2-test .taken),
   bit-lt (c .before .before .before .before .before .before .before .before .before .before .before .before .before .before .before .before .args .message .now) (c .before .before .before .before .before .loop .k) (c .before .before .loop2 .m) (c .bit-of .ensures),
 )
 
 pulse-norm-requires-2 : tie.Need-pulse-norm-requires-2 Inv-loop2 μ-loop2 Inv-loop μ-loop
-pulse-norm-requires-2 c κs =
-    (
+pulse-norm-requires-2 c κs = (
   omega (arith, c .before .before .before .before .before .before .before .before .before .before .if2 .left, c .before .before .before .before .before .loop-test .taken, c .before .before .loop2-test .taken),
   omega (arith, c .before .before .before .before .before .loop-test .taken, c .before .before .loop2-test .taken),
   bit-lt (c .before .before .before .before .before .before .before .before .before .before .before .before .before .before .before .before .before .args .message .now) (c .before .before .before .before .before .before .loop .k) (c .before .before .before .loop2 .m) (c .before .bit-of .ensures),
 )
 
 pulse-norm-requires-3 : tie.Need-pulse-norm-requires-3 Inv-loop2 μ-loop2 Inv-loop μ-loop
-pulse-norm-requires-3 c κs =
-    (
+pulse-norm-requires-3 c κs = (
   omega (arith, c .before .before .before .before .before .before .before .before .before .before .if3 .left, c .before .before .before .before .before .before .loop-test .taken, c .before .before .before .loop2-test .taken),
   omega (arith, c .before .before .before .before .before .before .loop-test .taken, c .before .before .before .loop2-test .taken),
   bit-lt (c .before .before .before .before .before .before .before .before .before .before .before .before .before .before .before .before .before .before .args .message .now) (c .before .before .before .before .before .before .before .loop .k) (c .before .before .before .before .loop2 .m) (c .before .before .bit-of .ensures),
 )
 
 pulse-norm-requires-4 : tie.Need-pulse-norm-requires-4 Inv-loop2 μ-loop2 Inv-loop μ-loop
-pulse-norm-requires-4 c κs =
-    (
+pulse-norm-requires-4 c κs = (
   omega (arith, c .before .before .before .before .before .before .before .before .before .before .if4 .left, c .before .before .before .before .before .before .before .loop-test .taken, c .before .before .before .before .loop2-test .taken),
   omega (arith, c .before .before .before .before .before .before .before .loop-test .taken, c .before .before .before .before .loop2-test .taken),
   bit-lt (c .before .before .before .before .before .before .before .before .before .before .before .before .before .before .before .before .before .before .before .args .message .now) (c .before .before .before .before .before .before .before .before .loop .k) (c .before .before .before .before .before .loop2 .m) (c .before .before .before .bit-of .ensures),

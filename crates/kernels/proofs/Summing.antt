@@ -4,11 +4,11 @@
 --     symbols-in            the symbols that the sums of a window are
 --     pair-more             a symbol is set out
 --     pairs-start, -end     before the phases of a symbol, and after them
---     symbols-length        there are 2,304 numbers
+--     sums-length, symbols-length        there are 2,304 numbers
 --     symbol-stands         where a symbol stands
 --     complex-part          complex numbers of a part of a row
 --     row-symbol            a row by itself holds the symbols of its phase
---     summed-done, set-done, accumulated-done, sums-made      the answers where nothing is refused
+--     summed-done, set-done, accumulated-done, sums-made, symbols-out      the answers where nothing is refused
 -- Assumes nothing.
 use mathlib.Core.Path.{_≡_, sym, ap, _∙_}
 use mathlib.Core.List.{List}
@@ -172,6 +172,10 @@ module _ (sums xs : List Float) (n : ℕ) where
   pub pairs-end : (k : ℕ) → 4 ≤ k → Where nan (symbolIn sums) 2304 xs (Stored n (2 * k)) → Where nan (symbolIn sums) 2304 xs (λ (j : ℕ). j % 576 < 2 * (n + 1))
   pairs-end k l r = record { size = r .size; each = λ j h q. r .each j h (omega arith, omega arith) }
 
+pub sums-length : (s : List Float) → length (sumsOf s) ≡ 2304
+unfolding sumsOf
+sums-length s = length-tabulate 2304 (sumPart s)
+
 pub symbols-length : (s : List Float) → length (symbolsOf s) ≡ 2304
 unfolding symbolsOf
 symbols-length s = length-tabulate 2304 (symbolPart s)
@@ -209,6 +213,12 @@ sums-made samples sums a b e = ap (λ (p : ℕ × List Float). p .1) (e ∙ summ
 pub set-done : (sums symbols : List Float) → length sums ≡ 2304 → length symbols ≡ 2304 → setOut sums symbols ≡ (0, symbolsIn sums)
 unfolding setOut
 set-done sums symbols a b = simp (eq-eqb _ _ a, eq-eqb _ _ b)
+
+-- from the sums of a window its symbols
+pub symbols-out : (samples sums symbols : List Float) {r : ℕ} {now : List Float} → sums ≡ sumsOf samples → length symbols ≡ 2304 → (r, now) ≡ setOut sums symbols
+    → now ≡ symbolsOf samples
+symbols-out samples sums symbols a b e =
+    ap (λ (p : ℕ × List Float). p .1) (e ∙ set-done sums symbols (ap length a ∙ sums-length samples) b) ∙ ap symbolsIn a ∙ symbols-in samples
 
 pub accumulated-done : (samples symbols : List Float) → length samples ≡ 2310 → length symbols ≡ 2304
     → accumulated samples symbols ≡ (0, symbolsOf samples)

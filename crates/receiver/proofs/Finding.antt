@@ -11,7 +11,6 @@ use mathlib.Core.List.{List}
 use mathlib.Core.Option.{none, some}
 use Prim.Native.Nat.{ℕ, _+_, _-_, _*_, _<_, _≤_, min}
 use native.Mathlib.Omega.{arith}
-use borrow.Author.Tests.{eq-eqb}
 use lib.Dec.{eqb}
 use lib.ListN.{length, getD, take, drop}
 use lib.Ieee.{Float}
@@ -28,10 +27,12 @@ use Rattle.place.specs.Step.{sampleStart}
 use Rattle.place.specs.All.{listed, placeAt}
 use Rattle.place.proofs.Within.{listed-gives}
 use Rattle.place.proofs.All.{counted}
+use Rattle.kernels.specs.Symbols.{sumsOf}
 use Rattle.kernels.proofs.Summing.{symbols-length}
 use Rattle.streams.specs.Streams.{messageAt}
 use Rattle.scan.specs.Flat.{bitsFrom, crcIn, crcsIn, messageFrom, scanned}
 use Rattle.scan.specs.Lanes.{laneBytes}
+use Rattle.scan.proofs.Comparing.{scanned-done}
 use Rattle.scan.proofs.Starting.{bits-start, stream-lane, digits-of}
 use Rattle.search.specs.declared.Settings.{Settings}
 use Rattle.search.specs.declared.Reading.{Reading}
@@ -71,20 +72,21 @@ pub sums-length : (samples symbols : List Float) (coherent noncoherent crcs othe
 sums-length samples symbols coherent noncoherent crcs others w = ap length (w .sums) ∙ symbols-length samples
 
 -- what a scan has written
-pub scan-done : (samples : List Float) (a b c d : List ℕ) {n : ℕ} {coherent noncoherent crcs others : List ℕ} → length samples ≡ 2310
-    → length a ≡ 1152 → length b ≡ 1152 → length c ≡ 248 → length d ≡ 248
-    → _≡_ {A = ℕ × List ℕ × List ℕ × List ℕ × List ℕ} (n, coherent, noncoherent, crcs, others) (scanned samples a b c d)
-    → Scanned samples coherent noncoherent crcs others
-unfolding scanned
-scan-done samples a b c d h ha hb hc hd e =
-    let q = simp (eq-eqb _ _ h, eq-eqb _ _ ha, eq-eqb _ _ hb, eq-eqb _ _ hc, eq-eqb _ _ hd) at e in
-    record {
-      whole = h;
-      first = ap (λ (x : ℕ × List ℕ × List ℕ × List ℕ × List ℕ). x .1) q;
-      second = ap (λ (x : ℕ × List ℕ × List ℕ × List ℕ × List ℕ). x .2) q;
-      first-crcs = ap (λ (x : ℕ × List ℕ × List ℕ × List ℕ × List ℕ). x .3) q;
-      second-crcs = ap (λ (x : ℕ × List ℕ × List ℕ × List ℕ × List ℕ). x .4) q;
-    }
+pub scan-done : (samples z : List Float) (a b c d : List ℕ) {n : ℕ} {sums : List Float} {coherent noncoherent crcs others : List ℕ} → length samples ≡ 2310
+    → length z ≡ 2304 → length a ≡ 1152 → length b ≡ 1152 → length c ≡ 248 → length d ≡ 248
+    → _≡_ {A = ℕ × List Float × List ℕ × List ℕ × List ℕ × List ℕ} (n, sums, coherent, noncoherent, crcs, others) (scanned samples z a b c d)
+    → Scanned samples coherent noncoherent crcs others × (sums ≡ sumsOf samples)
+scan-done samples z a b c d h hz ha hb hc hd e =
+    let q = e ∙ scanned-done samples z a b c d h hz ha hb hc hd in (
+      record {
+        whole = h;
+        first = ap (λ (x : ℕ × List Float × List ℕ × List ℕ × List ℕ × List ℕ). x .2) q;
+        second = ap (λ (x : ℕ × List Float × List ℕ × List ℕ × List ℕ × List ℕ). x .3) q;
+        first-crcs = ap (λ (x : ℕ × List Float × List ℕ × List ℕ × List ℕ × List ℕ). x .4) q;
+        second-crcs = ap (λ (x : ℕ × List Float × List ℕ × List ℕ × List ℕ × List ℕ). x .5) q;
+      },
+      ap (λ (x : ℕ × List Float × List ℕ × List ℕ × List ℕ × List ℕ). x .1) q,
+    )
 
 -- where a place starts
 pub record Start (p : Place) : Type 0 where

@@ -1,14 +1,16 @@
 -- What is read at a place, from the parts that are lent for it.
---     power-is, both-is      the powers of a message
+--     part-whole             the symbols of a place are all there
+--     power-in, around-in, both-is      the powers of a message
 --     message-is             the named slicer's bits, repaired
 -- Assumes nothing.
 use mathlib.Core.Path.{_≡_, sym, ap, _∙_}
 use mathlib.Core.Bool.{true}
 use mathlib.Core.List.{List}
-use Prim.Native.Nat.{ℕ, _%_, _≤_}
+use Prim.Native.Nat.{ℕ, _*_, _%_, _≤_}
 use native.Mathlib.Omega.{arith}
 use borrow.Author.Tests.{eq-eqb, le-leb}
-use lib.ListN.{length}
+use lib.ListN.{length, take, drop, length-drop}
+use lib.Seq.{length-take-le}
 use lib.Ieee.{Float}
 use Rattle.annex10.specs.declared.Repairs.{Repairs}
 use Rattle.annex10.specs.Repair.{inside, repaired}
@@ -16,13 +18,16 @@ use Rattle.mode_s.specs.Corrected.{corrected}
 use Rattle.place.specs.declared.Place.{Place}
 use Rattle.place.specs.declared.Slicer.{Slicer}
 use Rattle.place.specs.Step.{within}
+use Rattle.place.proofs.Within.{within-gives}
 use Rattle.parts.specs.Part.{rowRefusal, symbolsFor, samplesFor, streamsRefusal, chosen, partSize, slicerPart}
 use Rattle.parts.proofs.Taken.{symbols-long, samples-long, part-done, part-long}
 use Rattle.kernels.specs.declared.power.Power.{Power}
 use Rattle.kernels.specs.declared.power.Power.the-variants.{Is}
 use Rattle.kernels.specs.declared.both.Powers.{Powers}
 use Rattle.kernels.specs.Powers.{powerOf, noiseOf, powerTold, powerAt}
+use Rattle.kernels.specs.declared.around.Around.{Around}
 use Rattle.kernels.specs.Both.{powersAt}
+use Rattle.kernels.specs.Around.{aroundAt}
 use Rattle.kernels.proofs.Measuring.{power-done}
 use Rattle.kernels.proofs.Told.{powerUntold, power-back}
 use Rattle.streams.specs.declared.message.Message.{Message}
@@ -30,19 +35,40 @@ use Rattle.streams.specs.Streams.{messageAt}
 use Rattle.streams.specs.Messages.{partMessage}
 use Rattle.streams.proofs.Parting as Parting
 use Rattle.streams.proofs.Reading.{message-length}
+use Rattle.receiver.specs.Inner.{powerIn}
 
 row-taken : (size : ℕ) (xs : List Float) (p : Place) → length xs ≡ size → within 14 p ≡ true → rowRefusal size 14 xs p ≡ 0
 unfolding rowRefusal
 row-taken size xs p e w = rw (eq-eqb _ _ e, w)
 
-module _ (xs : List Float) (p : Place) (message : List ℕ) {part : List Float} (a : Power) where
-  pub power-is : length xs ≡ 576 → within 14 p ≡ true → length message ≡ 14 → part ≡ symbolsFor 14 xs p → powerTold a ≡ powerAt part message
-      → a ≡ Is (powerOf 14 (symbolsFor 14 xs p) message)
-  power-is l w m e f =
-      sym (power-back a) ∙ ap powerUntold (
-      f ∙ ap (λ (x : List Float). powerAt x message) e
-      ∙ power-done (symbolsFor 14 xs p) message (symbols-long 14 xs p (omega arith) (row-taken 576 xs p l w)) m
-      )
+-- the symbols of a place, from those of all clock phases
+abbrev pub partIn : List Float → Place → List Float
+partIn symbols p = symbolsFor 14 (take 576 (drop (576 * p .phase) symbols)) p
+
+pub part-whole : (symbols : List Float) (p : Place) → length symbols ≡ 2304 → within 14 p ≡ true → length (partIn symbols p) ≡ 448
+part-whole symbols p l w =
+    let v = within-gives 14 p w in
+    let xs = drop (576 * p .phase) symbols in
+    let d : 576 ≤ length xs = rw (length-drop (576 * p .phase) symbols, l) (omega (arith, v .phase)) in
+    symbols-long 14 (take 576 xs) p (omega arith) (row-taken 576 (take 576 xs) p (length-take-le 576 xs d) w)
+
+pub power-in : (symbols : List Float) (p : Place) (message : List ℕ) {part : List Float} (a : Power) → length symbols ≡ 2304 → within 14 p ≡ true
+    → length message ≡ 14 → part ≡ partIn symbols p → powerTold a ≡ powerAt part message → a ≡ Is (powerIn symbols p message)
+unfolding powerIn
+power-in symbols p message a l w m e f =
+    sym (power-back a) ∙ ap powerUntold (
+    f ∙ ap (λ (x : List Float). powerAt x message) e
+    ∙ power-done (partIn symbols p) message (part-whole symbols p l w) m
+    )
+
+-- the powers at four places at once
+pub around-in : (symbols : List Float) (message : List ℕ) (p q s t : Place) {a b c d : List Float} {r : Around} → length symbols ≡ 2304
+    → within 14 p ≡ true → within 14 q ≡ true → within 14 s ≡ true → within 14 t ≡ true → length message ≡ 14
+    → a ≡ partIn symbols p → b ≡ partIn symbols q → c ≡ partIn symbols s → d ≡ partIn symbols t → r ≡ aroundAt a b c d message
+    → r ≡ record { number = 0; earliest = powerIn symbols p message; earlier = powerIn symbols q message; later = powerIn symbols s message; latest = powerIn symbols t message }
+unfolding aroundAt powerIn
+around-in symbols message p q s t l wp wq ws wt m ea eb ec ed er =
+    er ∙ rw (ea, eb, ec, ed, eq-eqb _ _ (part-whole symbols p l wp), eq-eqb _ _ (part-whole symbols q l wq), eq-eqb _ _ (part-whole symbols s l ws), eq-eqb _ _ (part-whole symbols t l wt), eq-eqb _ _ m)
 
 pub both-is : (samples row : List Float) (p : Place) (message : List ℕ) {a b : List Float} {r : Powers} → length samples ≡ 2310 → length row ≡ 576
     → within 14 p ≡ true → length message ≡ 14 → a ≡ symbolsFor 14 row p → b ≡ samplesFor 14 samples p → r ≡ powersAt a b message

@@ -1,6 +1,8 @@
 -- The places that timing looks at, and that what it looks at is the window.
 --     room            a place that is searched has two places either way
---     around          the prompt is the place itself or a neighbour
+--     back, on        a step back and a step on
+--     around-is       the powers around a place
+--     timed-by        the powers around a place say its timing
 --     earlier-is, later-is, at-done    what a step answers
 -- Assumes nothing.
 use mathlib.Core.Path.{_≡_, refl, sym, ap, _∙_}
@@ -9,6 +11,7 @@ use mathlib.Core.List.{List}
 use Prim.Native.Nat.{ℕ, _+_, _-_, _<_, _≤_}
 use native.Mathlib.Omega.{arith}
 use borrow.Author.Tests.{lt-ltb}
+use lib.ListN.{length}
 use lib.Ieee.{Float, lt}
 use Rattle.lists.specs.Told.{done}
 use Rattle.place.specs.declared.Place.{Place}
@@ -28,8 +31,11 @@ use Rattle.search.specs.declared.Prompt.{Prompt}
 use Rattle.search.specs.Window.{Window}
 use Rattle.search.specs.When.{lookAt, over, promptOf, about, timingAt}
 use Rattle.search.specs.Seen.{windowOf, promptAt, row}
+use Rattle.kernels.specs.declared.around.Around.{Around}
 use Rattle.kernels.specs.Symbols.{symbolsOf}
-use Rattle.receiver.specs.Inner.{powerIn, looked, seenIn}
+use Rattle.kernels.specs.Around.{aroundAt}
+use Rattle.receiver.specs.Inner.{powerIn, aroundIn, timedBy, seenIn}
+use Rattle.receiver.proofs.Looking.{partIn, around-in}
 
 -- a place that starts with sample t, at most 259, is within the window
 pub starts : (t : ℕ) → t ≤ 259 → within 14 (startingAt t) ≡ true
@@ -66,84 +72,72 @@ back-within p w = let v = within-gives 14 p w in starts (sampleStart p - 1) (ome
 pub on-within : (p : Place) → sampleStart p < 259 → within 14 (startingAt (sampleStart p + 1)) ≡ true
 on-within p h = starts (sampleStart p + 1) (omega arith)
 
+pub back : (p : Place) {q : Place} → listed 31 p ≡ true → q ≡ startingAt (sampleStart p - 1) → sampleStart q ≡ sampleStart p - 1
+back p h e = ap sampleStart e ∙ start-of (sampleStart p - 1)
+
+pub on : (p : Place) {q : Place} → q ≡ startingAt (sampleStart p + 1) → sampleStart q ≡ sampleStart p + 1
+on p e = ap sampleStart e ∙ start-of (sampleStart p + 1)
+
 -- ---- the prompt
 
--- p is looked at where it starts with sample `start`, one of s - 1, s, s + 1
-pub record Around (s : ℕ) (p : Prompt) : Type 0 where
-  pub start : ℕ
-  pub is : p .place ≡ startingAt start
-  pub low : s ≤ start + 1
-  pub high : start ≤ s + 1
+-- what is made of the prompt is made of the place, of the earlier neighbour or of the later one
+module _ (own early late : Prompt) (f : Prompt → Timing) where
+  either : (t : Bool) (a b : Prompt) → f (cond t a b) ≡ cond t (f a) (f b)
+  either true a b = refl
+  either false a b = refl
 
-either : {s : ℕ} (a b : Prompt) → Around s a → Around s b → Around s (over a b)
-unfolding over
-either {s} a b x y = go (lt (a .power) (b .power))
-  where
-    go : (t : Bool) → Around s (cond t b a)
-    go true = y
-    go false = x
+  one-of : f (over (over own early) late)
+      ≡ cond (lt (own .power) (early .power)) (cond (lt (early .power) (late .power)) (f late) (f early)) (cond (lt (own .power) (late .power)) (f late) (f own))
+  unfolding over
+  one-of = go (lt (own .power) (early .power))
+    where
+      go : (t : Bool) → f (cond (lt (cond t early own .power) (late .power)) late (cond t early own))
+          ≡ cond t (cond (lt (early .power) (late .power)) (f late) (f early)) (cond (lt (own .power) (late .power)) (f late) (f own))
+      go true = either (lt (early .power) (late .power)) late early
+      go false = either (lt (own .power) (late .power)) late own
 
-pub around : (w : Window) (message : List ℕ) (s : ℕ) → 2 ≤ s → Around s (promptOf w message s)
-unfolding promptOf lookAt
-around w message s h =
-    either _ _
-    (either _ _
-    (record { start = s; is = refl; low = omega arith; high = omega arith })
-    (record { start = s - 1; is = refl; low = omega arith; high = omega arith }))
-    (record { start = s + 1; is = refl; low = omega arith; high = omega arith })
+-- the powers around a place say its timing
+module _ (symbols : List Float) (message : List ℕ) where
+  abbrev timed : Prompt → Timing
+  timed p = timingOf (fractionOf (about (seenIn symbols) message p) (p .offset))
 
--- so it can be looked at one clock phase either way
-pub record Inner-place (p : Place) : Type 0 where
-  pub within-it : within 14 p ≡ true
-  pub low : 0 < sampleStart p
-  pub high : sampleStart p < 259
+  abbrev power : ℕ → Float
+  power s = powerIn symbols (startingAt s) message
 
-pub inner : (s : ℕ) (p : Prompt) → 2 ≤ s → s + 2 ≤ 259 → Around s p → Inner-place (p .place)
-inner s p l h a =
-    let t = a .start in
-    let e : sampleStart (p .place) ≡ t = ap sampleStart (a .is) ∙ start-of t in
-    record {
-      within-it = rw (a .is) (starts t (omega (arith, a .low, a .high)));
-      low = omega (arith, a .low, a .high);
-      high = omega (arith, a .low, a .high);
-    }
+  looked-at : (s : ℕ) (offset : Offset) → timed (lookAt (seenIn symbols) message s offset)
+      ≡ timingOf (fractionOf (parabola (power (s - 1)) (power s) (power (s + 1))) offset)
+  unfolding about lookAt seenIn
+  looked-at s offset = rw (start-of s)
 
--- ---- looked at in the symbols, or in the window
+  pub timed-by : (p : Place) {x : Float} → listed 31 p ≡ true → x ≡ powerIn symbols p message
+      → timedBy x (aroundIn symbols message (sampleStart p)) ≡ timingAt (seenIn symbols) message (sampleStart p)
+  unfolding timedBy aroundIn timingAt promptOf lookAt seenIn
+  timed-by p h e =
+      let s = sampleStart p in
+      let r = room p h in
+      let x : _ ≡ power s = e ∙ ap (λ (q : Place). powerIn symbols q message) (sym (r .own)) in
+      let a : s - 1 - 1 ≡ s - 2 = omega arith in
+      let b : s - 1 + 1 ≡ s = omega (arith, r .low) in
+      let c : s + 1 - 1 ≡ s = omega arith in
+      let d : s + 1 + 1 ≡ s + 2 = omega arith in
+      rw (x, one-of (lookAt (seenIn symbols) message s Same) (lookAt (seenIn symbols) message (s - 1) Earlier) (lookAt (seenIn symbols) message (s + 1) Later) timed, looked-at s Same, looked-at (s - 1) Earlier, looked-at (s + 1) Later, a, b, c, d)
 
-pub looked-at : (symbols : List Float) (message : List ℕ) (s : ℕ) (offset : Offset) {p : Place} → p ≡ startingAt s
-    → looked symbols p message offset ≡ lookAt (seenIn symbols) message s offset
-unfolding looked lookAt seenIn
-looked-at symbols message s offset e = rw e
+-- what the calls of `around` made
+pub around-is : (symbols : List Float) (message : List ℕ) (p : Place) {q r u v : Place} {a b c d : List Float} {x : Around} → length symbols ≡ 2304
+    → listed 31 p ≡ true → length message ≡ 14
+    → (q ≡ startingAt (sampleStart p - 1)) × (within 14 q ≡ true) → (r ≡ startingAt (sampleStart p + 1)) × (within 14 r ≡ true)
+    → (u ≡ startingAt (sampleStart q - 1)) × (within 14 u ≡ true) → (v ≡ startingAt (sampleStart r + 1)) × (within 14 v ≡ true)
+    → a ≡ partIn symbols u → b ≡ partIn symbols q → c ≡ partIn symbols r → d ≡ partIn symbols v → x ≡ aroundAt a b c d message
+    → x ≡ aroundIn symbols message (sampleStart p)
+unfolding aroundIn
+around-is symbols message p {q} {r} {u} {v} l h m eq er eu ev ea eb ec ed ex =
+    let s = sampleStart p in
+    let i : sampleStart q - 1 ≡ s - 2 = omega (arith, back p h (eq .0)) in
+    let j : sampleStart r + 1 ≡ s + 2 = omega (arith, on p (er .0)) in
+    around-in symbols message u q r v l (eu .1) (eq .1) (er .1) (ev .1) m ea eb ec ed ex
+    ∙ rw (eu .0, ev .0, i, j, eq .0, er .0)
 
 -- the window's own timing
 pub timing-seen : (samples : List Float) (message : List ℕ) (s : ℕ) → timingAt (seenIn (symbolsOf samples)) message s ≡ timingAt (windowOf 14 samples) message s
 unfolding timingAt promptOf about lookAt seenIn windowOf promptAt powerIn row
 timing-seen samples message s = refl
-
--- ---- the functions' steps
-
-pub own-looked : (symbols : List Float) (message : List ℕ) (p : Place) {x : Float} → x ≡ powerIn symbols p message
-    → record { place = p; power = x; offset = Same } ≡ looked symbols p message Same
-unfolding looked
-own-looked symbols message p e = rw e
-
-pub prompt-is : (symbols : List Float) (message : List ℕ) (p : Place) {q r : Place} {own early late a b : Prompt} → listed 31 p ≡ true
-    → own ≡ looked symbols p message Same
-    → q ≡ startingAt (sampleStart p - 1) → early ≡ looked symbols q message Earlier
-    → r ≡ startingAt (sampleStart p + 1) → late ≡ looked symbols r message Later
-    → a ≡ over own early → b ≡ over a late → b ≡ promptOf (seenIn symbols) message (sampleStart p)
-unfolding promptOf
-prompt-is symbols message p h eo eq ee er el ea eb =
-    let s = sampleStart p in
-    let o = eo ∙ looked-at symbols message s Same (sym (room p h .own)) in
-    let e = ee ∙ looked-at symbols message (s - 1) Earlier eq in
-    let l = el ∙ looked-at symbols message (s + 1) Later er in
-    rw (eb, ea, o, e, l)
-
-pub about-is : (symbols : List Float) (message : List ℕ) (p : Prompt) {q r : Place} {x y v : Float} {t : Timing}
-    → q ≡ startingAt (sampleStart (p .place) - 1) → x ≡ powerIn symbols q message
-    → r ≡ startingAt (sampleStart (p .place) + 1) → y ≡ powerIn symbols r message
-    → v ≡ parabola x (p .power) y → t ≡ timingOf (fractionOf v (p .offset))
-    → t ≡ timingOf (fractionOf (about (seenIn symbols) message p) (p .offset))
-unfolding about seenIn
-about-is symbols message p eq ex er ey ev et = rw (et, ev, ex, ey, eq, er)

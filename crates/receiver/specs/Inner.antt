@@ -4,10 +4,10 @@ use mathlib.Core.Path.{_≡_}
 use mathlib.Core.Bool.{Bool, true, not, cond}
 use mathlib.Core.List.{List, [], foldl}
 use mathlib.Core.Option.{Option}
-use Prim.Native.Nat.{ℕ, _+_, _*_, _/_, _%_, _<_, _≤_}
+use Prim.Native.Nat.{ℕ, _+_, _-_, _*_, _/_, _%_, _<_, _≤_}
 use lib.Dec.{eqb, leb}
 use lib.ListN.{length, getD, take, drop}
-use lib.Ieee.{Float}
+use lib.Ieee.{Float, lt}
 use Rattle.annex10.specs.Remainder.{remainder}
 use Rattle.annex10.specs.Any.{only}
 use Rattle.annex10.specs.Repair.{inside, clearing}
@@ -17,8 +17,10 @@ use Rattle.annex10.specs.declared.Found.{Found}
 use Rattle.annex10.specs.declared.Found.the-variants.{At, Nothing}
 use Rattle.place.specs.declared.Place.{Place}
 use Rattle.place.specs.declared.Slicer.the-variants.{Coherent, Noncoherent}
-use Rattle.place.specs.Step.{sampleStart}
+use Rattle.place.specs.Step.{sampleStart, startingAt}
 use Rattle.parts.specs.Part.{symbolsFor, samplesFor, chosen}
+use Rattle.math.specs.Parabola.{parabola}
+use Rattle.kernels.specs.declared.around.Around.{Around}
 use Rattle.kernels.specs.Symbols.{symbolsOf}
 use Rattle.kernels.specs.Powers.{powerOf, noiseOf}
 use Rattle.streams.specs.Streams.{messageAt}
@@ -27,12 +29,13 @@ use Rattle.annex10.specs.Codes.{absent}
 use Rattle.scan.specs.Flat.{bitsFrom, crcsIn}
 use Rattle.scan.specs.Sieve.{laneOf}
 use Rattle.cn0.specs.Estimate.{cn0Of}
-use Rattle.timing.specs.declared.Offset.{Offset}
+use Rattle.timing.specs.declared.Offset.the-variants.{Same, Earlier, Later}
+use Rattle.timing.specs.declared.Timing.{Timing}
+use Rattle.timing.specs.Subsample.{fractionOf, timingOf}
 use Rattle.search.specs.declared.Tried.{Tried}
 use Rattle.search.specs.declared.Tried.the-variants.{Pass, Fail}
 use Rattle.search.specs.declared.Candidate.{Candidate}
 use Rattle.search.specs.declared.Survivor.{Survivor}
-use Rattle.search.specs.declared.Prompt.{Prompt}
 use Rattle.search.specs.declared.Arrival.{Arrival}
 use Rattle.search.specs.Window.{Window}
 use Rattle.search.specs.Choice.{better}
@@ -42,8 +45,24 @@ use Rattle.search.specs.When.{timingAt, indexOf}
 unfoldable pub powerIn : List Float → Place → List ℕ → Float
 powerIn symbols p message = powerOf 14 (symbolsFor 14 (take 576 (drop (576 * p .phase) symbols)) p) message
 
-unfoldable pub looked : List Float → Place → List ℕ → Offset → Prompt
-looked symbols p message offset = record { place = p; power = powerIn symbols p message; offset = offset }
+-- its powers one and two clock phases either way of sample s
+unfoldable pub aroundIn : List Float → List ℕ → ℕ → Around
+aroundIn symbols message s =
+    record {
+      number = 0;
+      earliest = powerIn symbols (startingAt (s - 2)) message;
+      earlier = powerIn symbols (startingAt (s - 1)) message;
+      later = powerIn symbols (startingAt (s + 1)) message;
+      latest = powerIn symbols (startingAt (s + 2)) message;
+    }
+
+-- the timing by its power and those around it: the earlier one takes over, then the later one
+unfoldable pub timedBy : Float → Around → Timing
+timedBy x a =
+    let on = timingOf (fractionOf (parabola x (a .later) (a .latest)) Later) in
+    cond (lt x (a .earlier))
+    (cond (lt (a .earlier) (a .later)) on (timingOf (fractionOf (parabola (a .earliest) (a .earlier) x) Earlier)))
+    (cond (lt x (a .later)) on (timingOf (fractionOf (parabola (a .earlier) x (a .later)) Same)))
 
 -- all that timing looks at
 unfoldable pub seenIn : List Float → Window

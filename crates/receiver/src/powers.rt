@@ -1,8 +1,6 @@
-// The powers of a message at a place, and what they make of it.
+// The powers of a message at a place.
 use kernels::both::Powers;
 use kernels::both::postdecode_powers;
-use kernels::power::Power;
-use kernels::power::postdecode_power;
 use parts::samples_for_place;
 use parts::symbols_for_place;
 use place::Place;
@@ -12,18 +10,6 @@ ghost use lib.ListN.{length};
 ghost use Rattle.kernels.specs.Powers.{powerOf, noiseOf};
 ghost use Rattle.place.specs.Step.{within};
 ghost use Rattle.parts.specs.Part.{symbolsFor, samplesFor};
-
-// In the pulses, from the row of symbols of the place's clock phase.
-pub fn prompt_power(row: &[f32], place: Place, message: [u8; 14]) -> f32
-    requires { ⌜ (length (now row) ≡ 576) × (within 14 place ≡ true) ⌝ }
-    ensures { λ r. ⌜ r ≡ powerOf 14 (symbolsFor 14 (now (row .entry)) place) message ⌝ }
-{
-    let part = symbols_for_place(row, place);
-    match postdecode_power(part, &message) {
-        Power::Is(power) => power,
-        Power::Refused(_) => 0.0,
-    }
-}
 
 // In the pulses, and beside them from the window's samples.
 pub fn both_powers(samples: &[f32], row: &[f32], place: Place, message: [u8; 14]) -> Powers

@@ -1,31 +1,44 @@
 // When a message came, from its powers at its place and around it.
-use crate::powers::prompt_power;
+use kernels::around::Around;
+use kernels::around::powers_around;
+use kernels::power::Power;
+use kernels::power::postdecode_power;
 use math::parabolic_interpolation;
+use parts::symbols_for_place;
 use place::Place;
 use place::Stepped;
-use search::Prompt;
 use timing::Offset;
 use timing::Timing;
 use timing::subsample_timing;
 ghost use mathlib.Core.Path.{_≡_};
 ghost use mathlib.Core.Bool.{true};
-ghost use Prim.Native.Nat.{_+_, _-_, _<_};
-ghost use lib.ListN.{length};
+ghost use Prim.Native.Nat.{_+_, _-_, _*_, _<_};
+ghost use lib.ListN.{length, take, drop};
 ghost use Rattle.place.specs.Step.{sampleStart, startingAt, within};
 ghost use Rattle.place.specs.All.{listed};
-ghost use Rattle.search.specs.When.{over, promptOf, about, timingAt};
-ghost use Rattle.timing.specs.Subsample.{fractionOf, timingOf};
-ghost use Rattle.receiver.specs.Inner.{powerIn, looked, seenIn};
+ghost use Rattle.parts.specs.Part.{symbolsFor};
+ghost use Rattle.search.specs.When.{timingAt};
+ghost use Rattle.receiver.specs.Inner.{powerIn, aroundIn, timedBy, seenIn};
 
-// The power of a message at a place, from the symbols of all clock phases.
+// The symbols of a place, from those of all clock phases.
+fn symbols_at(symbols: &[f32], place: Place) -> &[f32]
+    requires { ⌜ (length (now symbols) ≡ 2304) × (within 14 place ≡ true) ⌝ }
+    ensures { λ r. ⌜ now r ≡ symbolsFor 14 (take 576 (drop (576 * place .phase) (now (symbols .entry)))) place ⌝ }
+{
+    let from = 576 * place.phase;
+    let to = from + 576;
+    symbols_for_place(&symbols[from..to], place)
+}
+
+// The power of a message at a place.
 pub fn power_at(symbols: &[f32], place: Place, message: [u8; 14]) -> f32
     requires { ⌜ (length (now symbols) ≡ 2304) × (within 14 place ≡ true) ⌝ }
     ensures { λ r. ⌜ r ≡ powerIn (now (symbols .entry)) place message ⌝ }
 {
-    let phase = place.phase;
-    let from = 576 * phase;
-    let to = from + 576;
-    prompt_power(&symbols[from..to], place, message)
+    match postdecode_power(symbols_at(symbols, place), &message) {
+        Power::Is(power) => power,
+        Power::Refused(_) => 0.0,
+    }
 }
 
 fn earlier(place: Place) -> Place
@@ -48,53 +61,48 @@ fn later(place: Place) -> Place
     }
 }
 
-fn look_at(symbols: &[f32], place: Place, message: [u8; 14], offset: Offset) -> Prompt
-    requires { ⌜ (length (now symbols) ≡ 2304) × (within 14 place ≡ true) ⌝ }
-    ensures { λ r. ⌜ r ≡ looked (now (symbols .entry)) place message offset ⌝ }
+// At its neighbours: one and two clock phases either way.
+fn around(symbols: &[f32], place: Place, message: &[u8]) -> Around
+    requires { ⌜ (length (now symbols) ≡ 2304) × (listed 31 place ≡ true) × (length (now message) ≡ 14) ⌝ }
+    ensures { λ r. ⌜ r ≡ aroundIn (now (symbols .entry)) (now (message .entry)) (sampleStart place) ⌝ }
 {
-    let power = power_at(symbols, place, message);
-    Prompt {
-        place,
-        power,
-        offset,
+    let before = earlier(place);
+    let after = later(place);
+    powers_around(
+        symbols_at(symbols, earlier(before)),
+        symbols_at(symbols, before),
+        symbols_at(symbols, after),
+        symbols_at(symbols, later(after)),
+        message,
+    )
+}
+
+// A neighbour takes over only with strictly more power, the earlier one before the later one; the parabola lies about what is held then.
+fn time_by(power: f32, a: Around) -> Timing
+    ensures { λ r. ⌜ r ≡ timedBy power a ⌝ }
+{
+    if a.earlier > power {
+        if a.later > a.earlier {
+            return subsample_timing(
+                parabolic_interpolation(power, a.later, a.latest),
+                Offset::Later,
+            );
+        }
+        return subsample_timing(
+            parabolic_interpolation(a.earliest, a.earlier, power),
+            Offset::Earlier,
+        );
     }
-}
-
-// A neighbour takes over only with strictly more power.
-fn take_over(held: Prompt, new: Prompt) -> Prompt
-    ensures { λ r. ⌜ r ≡ over held new ⌝ }
-{
-    if new.power > held.power {
-        return new;
+    if a.later > power {
+        return subsample_timing(
+            parabolic_interpolation(power, a.later, a.latest),
+            Offset::Later,
+        );
     }
-    held
-}
-
-// The place itself, whose power is known, the neighbour one clock phase earlier, then the one later.
-fn prompt_of(symbols: &[f32], place: Place, message: [u8; 14], power: f32) -> Prompt
-    requires { ⌜ (length (now symbols) ≡ 2304) × (listed 31 place ≡ true) × (power ≡ powerIn (now symbols) place message) ⌝ }
-    ensures { λ r. ⌜ r ≡ promptOf (seenIn (now (symbols .entry))) message (sampleStart place) ⌝ }
-{
-    let own = Prompt {
-        place,
-        power,
-        offset: Offset::Same,
-    };
-    let early = look_at(symbols, earlier(place), message, Offset::Earlier);
-    let late = look_at(symbols, later(place), message, Offset::Later);
-    take_over(take_over(own, early), late)
-}
-
-// The parabola about the prompt.
-fn time_about(symbols: &[f32], prompt: Prompt, message: [u8; 14]) -> Timing
-    requires { ⌜ (length (now symbols) ≡ 2304) × (within 14 (prompt .place) ≡ true) × (0 < sampleStart (prompt .place)) × (sampleStart (prompt .place) < 259) ⌝ }
-    ensures { λ r. ⌜ r ≡ timingOf (fractionOf (about (seenIn (now (symbols .entry))) message prompt) (prompt .offset)) ⌝ }
-{
-    let at = prompt.place;
-    let offset = prompt.offset;
-    let before = power_at(symbols, earlier(at), message);
-    let after = power_at(symbols, later(at), message);
-    subsample_timing(parabolic_interpolation(before, prompt.power, after), offset)
+    subsample_timing(
+        parabolic_interpolation(a.earlier, power, a.later),
+        Offset::Same,
+    )
 }
 
 // The moves and the fraction of a message at one of the places that are searched, with its power there.
@@ -102,5 +110,5 @@ pub fn subsample(symbols: &[f32], place: Place, message: [u8; 14], power: f32) -
     requires { ⌜ (length (now symbols) ≡ 2304) × (listed 31 place ≡ true) × (power ≡ powerIn (now symbols) place message) ⌝ }
     ensures { λ r. ⌜ r ≡ timingAt (seenIn (now (symbols .entry))) message (sampleStart place) ⌝ }
 {
-    time_about(symbols, prompt_of(symbols, place, message, power), message)
+    time_by(power, around(symbols, place, &message))
 }

@@ -3,6 +3,7 @@ use crate::candidate::nothing;
 use crate::find::find;
 use crate::find::read_at;
 use kernels::symbols::accumulate_symbols;
+use kernels::symbols::symbols_of_sums;
 use place::Place;
 use repairs::rows::bit_errors_from_crc24s;
 use scan::list::list_exact;
@@ -14,7 +15,7 @@ ghost use mathlib.Core.Path.{_≡_};
 ghost use mathlib.Core.Bool.{true};
 ghost use mathlib.Core.Option.{none};
 ghost use lib.ListN.{length, take};
-ghost use Rattle.kernels.specs.Symbols.{symbolsOf};
+ghost use Rattle.kernels.specs.Symbols.{sumsOf, symbolsOf};
 ghost use Rattle.place.specs.All.{listed, placeAt};
 ghost use Rattle.search.specs.Choice.{candidateAt, best};
 ghost use Rattle.search.specs.Kinds.{long};
@@ -33,9 +34,10 @@ pub fn symbols_of(samples: &[f32]) -> [f32; 2304]
     symbols
 }
 
-// The best of the places in a list: only here the symbols are made, and they stay for the timing of what is found.
+// The best of the places in a list: only here the symbols are set out, and they stay for the timing of what is found.
 fn best_listed(
     samples: &[f32],
+    sums: &[f32],
     symbols: &mut [f32],
     coherent: &[u8],
     noncoherent: &[u8],
@@ -46,13 +48,13 @@ fn best_listed(
     count: usize,
     s: Settings,
 ) -> Survivor
-    requires { ⌜ Scanned (now samples) (now coherent) (now noncoherent) (now crcs) (now others) × Listing (s .level) (now crcs) (now others) (now list) (now codes) count × (settingsNumber s ≡ 0) × (length (now symbols) ≡ 2304) ⌝ }
+    requires { ⌜ Scanned (now samples) (now coherent) (now noncoherent) (now crcs) (now others) × Listing (s .level) (now crcs) (now others) (now list) (now codes) count × (settingsNumber s ≡ 0) × (length (now symbols) ≡ 2304) × (now sums ≡ sumsOf (now samples)) ⌝ }
     ensures { λ r. ⌜ (r ≡ survivorOf (over (candidateAt long s (windowOf 14 (now (samples .entry)))) placeAt none (take count (now (list .entry))))) × Sums (now (samples .entry)) r (now (symbols .exit)) ⌝ }
 {
     if count == 0 {
         return nothing();
     }
-    accumulate_symbols(samples, symbols);
+    symbols_of_sums(sums, symbols);
     find(
         samples,
         symbols,
@@ -70,6 +72,7 @@ fn best_listed(
 // The best without repairs.
 fn exact_best(
     samples: &[f32],
+    sums: &[f32],
     symbols: &mut [f32],
     coherent: &[u8],
     noncoherent: &[u8],
@@ -77,7 +80,7 @@ fn exact_best(
     others: &[u32],
     s: Settings,
 ) -> Survivor
-    requires { ⌜ Scanned (now samples) (now coherent) (now noncoherent) (now crcs) (now others) × (settingsNumber s ≡ 0) × (length (now symbols) ≡ 2304) ⌝ }
+    requires { ⌜ Scanned (now samples) (now coherent) (now noncoherent) (now crcs) (now others) × (settingsNumber s ≡ 0) × (length (now symbols) ≡ 2304) × (now sums ≡ sumsOf (now samples)) ⌝ }
     ensures { λ r. ⌜ (r ≡ survivorOf (best long (atLevel 0 s) (windowOf 14 (now (samples .entry))))) × Sums (now (samples .entry)) r (now (symbols .exit)) ⌝ }
 {
     let mut list = [0u8; 248];
@@ -85,6 +88,7 @@ fn exact_best(
     let codes = [0x10000u32; 496];
     best_listed(
         samples,
+        sums,
         symbols,
         coherent,
         noncoherent,
@@ -105,6 +109,7 @@ fn exact_best(
 // The best with repairs, where there is none without.
 fn repaired_best(
     samples: &[f32],
+    sums: &[f32],
     symbols: &mut [f32],
     coherent: &[u8],
     noncoherent: &[u8],
@@ -112,7 +117,7 @@ fn repaired_best(
     others: &[u32],
     s: Settings,
 ) -> Survivor
-    requires { ⌜ Scanned (now samples) (now coherent) (now noncoherent) (now crcs) (now others) × (settingsNumber s ≡ 0) × (best long (atLevel 0 s) (windowOf 14 (now samples)) ≡ none) × (length (now symbols) ≡ 2304) ⌝ }
+    requires { ⌜ Scanned (now samples) (now coherent) (now noncoherent) (now crcs) (now others) × (settingsNumber s ≡ 0) × (best long (atLevel 0 s) (windowOf 14 (now samples)) ≡ none) × (length (now symbols) ≡ 2304) × (now sums ≡ sumsOf (now samples)) ⌝ }
     ensures { λ r. ⌜ (r ≡ survivorOf (best long s (windowOf 14 (now (samples .entry))))) × Sums (now (samples .entry)) r (now (symbols .exit)) ⌝ }
 {
     let mut list = [0u8; 248];
@@ -120,6 +125,7 @@ fn repaired_best(
     let listed = find_repairable(s.level, crcs, others, &mut list, &mut codes);
     best_listed(
         samples,
+        sums,
         symbols,
         coherent,
         noncoherent,
@@ -135,6 +141,7 @@ fn repaired_best(
 // What needs no repair comes first: where there is such a reading, no table is asked.
 fn in_stages(
     samples: &[f32],
+    sums: &[f32],
     symbols: &mut [f32],
     coherent: &[u8],
     noncoherent: &[u8],
@@ -142,17 +149,35 @@ fn in_stages(
     others: &[u32],
     s: Settings,
 ) -> Survivor
-    requires { ⌜ Scanned (now samples) (now coherent) (now noncoherent) (now crcs) (now others) × (settingsNumber s ≡ 0) × (length (now symbols) ≡ 2304) ⌝ }
+    requires { ⌜ Scanned (now samples) (now coherent) (now noncoherent) (now crcs) (now others) × (settingsNumber s ≡ 0) × (length (now symbols) ≡ 2304) × (now sums ≡ sumsOf (now samples)) ⌝ }
     ensures { λ r. ⌜ (r ≡ survivorOf (best long s (windowOf 14 (now (samples .entry))))) × Sums (now (samples .entry)) r (now (symbols .exit)) ⌝ }
 {
-    let exact = exact_best(samples, symbols, coherent, noncoherent, crcs, others, s);
+    let exact = exact_best(
+        samples,
+        sums,
+        symbols,
+        coherent,
+        noncoherent,
+        crcs,
+        others,
+        s,
+    );
     if exact.number == 0 {
         return exact;
     }
     if s.level == 0 {
         return exact;
     }
-    repaired_best(samples, symbols, coherent, noncoherent, crcs, others, s)
+    repaired_best(
+        samples,
+        sums,
+        symbols,
+        coherent,
+        noncoherent,
+        crcs,
+        others,
+        s,
+    )
 }
 
 // The best of all places. Where there is one, the symbols are those of the window.
@@ -164,14 +189,25 @@ pub fn best_of(samples: &[f32], symbols: &mut [f32], s: Settings) -> Survivor
     let mut noncoherent = [0u8; 1152];
     let mut crcs = [0u32; 248];
     let mut others = [0u32; 248];
+    let mut sums = [0.0f32; 2304];
     scan(
         samples,
+        &mut sums,
         &mut coherent,
         &mut noncoherent,
         &mut crcs,
         &mut others,
     );
-    in_stages(samples, symbols, &coherent, &noncoherent, &crcs, &others, s)
+    in_stages(
+        samples,
+        &sums,
+        symbols,
+        &coherent,
+        &noncoherent,
+        &crcs,
+        &others,
+        s,
+    )
 }
 
 // The surviving reading of one place.
@@ -183,8 +219,10 @@ pub fn reading_at(samples: &[f32], s: Settings, place: Place) -> Survivor
     let mut noncoherent = [0u8; 1152];
     let mut crcs = [0u32; 248];
     let mut others = [0u32; 248];
+    let mut sums = [0.0f32; 2304];
     scan(
         samples,
+        &mut sums,
         &mut coherent,
         &mut noncoherent,
         &mut crcs,
@@ -194,7 +232,8 @@ pub fn reading_at(samples: &[f32], s: Settings, place: Place) -> Survivor
     let both = [crcs[i], others[i]];
     let mut codes = [0u32; 2];
     bit_errors_from_crc24s(s.level, &both, &mut codes);
-    let symbols = symbols_of(samples);
+    let mut symbols = [0.0f32; 2304];
+    symbols_of_sums(&sums, &mut symbols);
     read_at(
         samples,
         &symbols,

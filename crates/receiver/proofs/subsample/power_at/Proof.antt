@@ -1,51 +1,52 @@
--- `receiver::subsample::power_at` meets its contract: the row of the place's clock phase is lent.
--- Assumes nothing.
+-- `receiver::subsample::power_at` meets its contract: the part for the place is never refused. Assumes nothing.
 use mathlib.Core.Path.{_≡_}
+use Prim.Native.Nat.{ℕ}
 use native.Mathlib.Omega.{arith}
-use Prim.Native.Nat.{_+_, _-_, _*_}
-use Rattle.place.proofs.Within.{within-gives}
-use Rattle.receiver.specs.Inner.{powerIn}
+use Rattle.receiver.proofs.Looking.{power-in}
 use borrow.Author.Needs.{needs}
 use Rattle.receiver.proofs.subsample.power_at.Statement.{statement}
 use Rattle.receiver.proofs.subsample.power_at.Tie as tie
 
-mul-from : tie.Need-mul-from
-mul-from c = let w = within-gives 14 (c .before .args .place) (c .before .pre .1) in omega arith
+symbols-at-requires : tie.Need-symbols-at-requires
+symbols-at-requires c κs = search needs
 
-add-to : tie.Need-add-to
-add-to c = let w = within-gives 14 (c .before .args .place) (c .before .pre .1) in omega arith
+slice-aggregate-postdecode-power : tie.Need-slice-aggregate-postdecode-power
+slice-aggregate-postdecode-power c = search needs
 
-mul-prompt-power : tie.Need-mul-prompt-power
-mul-prompt-power c = let w = within-gives 14 (c .before .args .place) (c .before .pre .1) in omega arith
+postdecode-power-requires : tie.Need-postdecode-power-requires
+postdecode-power-requires c κs = search needs
 
-sub-prompt-power : tie.Need-sub-prompt-power
-sub-prompt-power c = search needs
+enum-known-power : tie.Need-enum-known-power
+enum-known-power c = search needs
 
-part-prompt-power-start : tie.Need-part-prompt-power-start
-part-prompt-power-start c = search needs
-
-part-prompt-power-end : tie.Need-part-prompt-power-end
-part-prompt-power-end c = let w = within-gives 14 (c .before .args .place) (c .before .pre .1) in omega arith
-
-prompt-power-requires : tie.Need-prompt-power-requires
-prompt-power-requires c κs = search needs
+enum-told : tie.Need-enum-told
+enum-told c = search needs
 
 returns : tie.Need-returns
-unfolding powerIn
 returns c =
-    let s = c .before .before .before in
-    let e : 576 * s .args .place .phase + 576 - 576 * s .args .place .phase ≡ 576 = omega arith in
-    rw e at (c .prompt-power .ensures)
+    let s = c .before .before .before .before .before .before .before in
+    let p = s .args .place in
+    let e = power-in (s .args .symbols .now) p (s .args .t3) (c .before .before .before .postdecode-power .result) (s .pre .0) (s .pre .1) (search needs) (c .before .before .before .before .before .symbols-at .ensures) (c .before .before .before .postdecode-power .ensures) in
+    let f = c .before .power .given .1 in
+    cc
+
+returns-2 : tie.Need-returns-2
+returns-2 c =
+    let s = c .before .before .before .before .before .before in
+    let p = s .args .place in
+    let e = power-in (s .args .symbols .now) p (s .args .t3) (c .before .before .postdecode-power .result) (s .pre .0) (s .pre .1) (search needs) (c .before .before .before .before .symbols-at .ensures) (c .before .before .postdecode-power .ensures) in
+    let f = c .enum-told .given .1 in
+    let z : _≡_ {A = ℕ} 0 1 = cc in
+    absurd (omega arith)
 
 pub power-at-spec : {M : Type 1} → statement M
 power-at-spec =
     tie.close
     (tie.spec
-    mul-from
-    add-to
-    mul-prompt-power
-    sub-prompt-power
-    part-prompt-power-start
-    part-prompt-power-end
-    prompt-power-requires
-    returns)
+    symbols-at-requires
+    slice-aggregate-postdecode-power
+    postdecode-power-requires
+    enum-known-power
+    enum-told
+    returns
+    returns-2)

@@ -1,13 +1,10 @@
--- `receiver::window::best_listed` meets its contract: an empty list needs no symbols.
--- Assumes nothing.
+-- `receiver::window::best_listed` meets its contract: an empty list needs no symbols. Assumes nothing.
 use mathlib.Core.Path.{sym, ap, _∙_}
-use mathlib.Core.List.{List}
 use mathlib.Core.Option.{none}
 use Prim.Native.Nat.{ℕ}
 use native.Mathlib.Omega.{arith}
 use lib.ListN.{length, take}
-use lib.Ieee.{Float}
-use Rattle.kernels.proofs.Summing.{accumulated-done, symbols-length}
+use Rattle.kernels.proofs.Summing.{symbols-out, symbols-length}
 use Rattle.search.specs.declared.Survivor.{Survivor}
 use Rattle.place.specs.All.{placeAt}
 use Rattle.search.specs.Choice.{candidateAt}
@@ -25,7 +22,7 @@ nothing-requires c κs = search needs
 
 returns : tie.Need-returns
 returns c =
-    let s = c .before .before .before .before .before .before .before .before .before .before in
+    let s = c .before .before .before .before .before .before .before .before .before .before .before in
     let a = s .args in
     let f = candidateAt long (a .s) (windowOf 14 (a .samples .now)) in
     let e = c .nothing .ensures in (
@@ -33,13 +30,13 @@ returns c =
       record { size = s .pre .3; made = λ z. absurd (omega (arith, ap (λ (x : Survivor). x .number) e)) },
     )
 
-accumulate-symbols-requires : tie.Need-accumulate-symbols-requires
-accumulate-symbols-requires c κs = search needs
+symbols-of-sums-requires : tie.Need-symbols-of-sums-requires
+symbols-of-sums-requires c κs = search needs
 
 find-requires : tie.Need-find-requires
 find-requires c κs =
-    let s = c .before .before .before .before .before .before .before .before .before .before .before .before .before .before in
-    let e = ap (λ (x : ℕ × List Float). x .1) (c .before .before .before .accumulate-symbols .ensures ∙ accumulated-done (s .args .samples .now) _ (s .pre .0 .whole) (s .pre .3)) in
+    let s = c .before .before .before .before .before .before .before .before .before .before .before .before .before .before .before in
+    let e = symbols-out (s .args .samples .now) (s .args .sums .now) _ (s .pre .4) (s .pre .3) (c .before .before .before .symbols-of-sums .ensures) in
     (record { scanned = s .pre .0; sums = e }, s .pre .1, s .pre .2)
 
 same-length : tie.Need-same-length
@@ -47,8 +44,8 @@ same-length c = search needs
 
 returns-2 : tie.Need-returns-2
 returns-2 c =
-    let s = c .before .before .before .before .before .before .before .before .before .before .before .before .before .before .before in
-    let e = ap (λ (x : ℕ × List Float). x .1) (c .before .before .before .before .accumulate-symbols .ensures ∙ accumulated-done (s .args .samples .now) _ (s .pre .0 .whole) (s .pre .3)) in
+    let s = c .before .before .before .before .before .before .before .before .before .before .before .before .before .before .before .before in
+    let e = symbols-out (s .args .samples .now) (s .args .sums .now) _ (s .pre .4) (s .pre .3) (c .before .before .before .before .symbols-of-sums .ensures) in
     (c .find .ensures, record { size = ap length e ∙ symbols-length (s .args .samples .now); made = λ z. e })
 
 pub best-listed-spec : {M : Type 1} → statement M
@@ -57,7 +54,7 @@ best-listed-spec =
     (tie.spec
     nothing-requires
     returns
-    accumulate-symbols-requires
+    symbols-of-sums-requires
     find-requires
     same-length
     returns-2)

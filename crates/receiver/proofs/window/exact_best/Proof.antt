@@ -1,5 +1,4 @@
--- `receiver::window::exact_best` meets its contract: a place that is not listed holds nothing without repairs.
--- Assumes nothing.
+-- `receiver::window::exact_best` meets its contract: a place that is not listed holds nothing without repairs. Assumes nothing.
 use mathlib.Core.Path.{refl}
 use lib.ListN.{replicate}
 use Rattle.search.proofs.Staging.{atLevel}
@@ -22,17 +21,17 @@ slice-aggregate-best-listed-2 c = search needs
 
 best-listed-requires : tie.Need-best-listed-requires
 best-listed-requires c κs =
-    let s = c .before .before .before .before .before .before .before .before .before .before .before .before in
+    let s = c .before .before .before .before .before .before .before .before .before .before .before .before .before in
     let a = s .args in
     let f = exact-front (a .samples .now) (a .coherent .now) (a .noncoherent .now) (a .crcs .now) (a .others .now) (s .pre .0) (replicate 248 0) refl (c .before .before .before .before .list-exact .ensures) in
-    (s .pre .0, exact-listing (a .samples .now) (a .coherent .now) (a .noncoherent .now) (a .crcs .now) (a .others .now) (s .pre .0) f, first-settings (a .s) (s .pre .1), s .pre .2)
+    (s .pre .0, exact-listing (a .samples .now) (a .coherent .now) (a .noncoherent .now) (a .crcs .now) (a .others .now) (s .pre .0) f, first-settings (a .s) (s .pre .1), s .pre .2, s .pre .3)
 
 same-length : tie.Need-same-length
 same-length c = search needs
 
 returns : tie.Need-returns
 returns c =
-    let s = c .before .before .before .before .before .before .before .before .before .before .before .before .before .before .before in
+    let s = c .before .before .before .before .before .before .before .before .before .before .before .before .before .before .before .before in
     let a = s .args in
     let f = exact-front (a .samples .now) (a .coherent .now) (a .noncoherent .now) (a .crcs .now) (a .others .now) (s .pre .0) (replicate 248 0) refl (c .before .before .before .before .before .before .before .list-exact .ensures) in
     let e = c .before .before .best-listed .ensures in

@@ -1,5 +1,4 @@
--- `receiver::window::in_stages` meets its contract: what needs no repair is what the search finds.
--- Assumes nothing.
+-- `receiver::window::in_stages` meets its contract: what needs no repair is what the search finds. Assumes nothing.
 use Rattle.search.specs.Choice.{best}
 use Rattle.search.specs.Kinds.{long}
 use Rattle.search.specs.Seen.{windowOf}
@@ -17,16 +16,26 @@ same-length : tie.Need-same-length
 same-length c = search needs
 
 returns : tie.Need-returns
-returns c = let a = c .before .before .before .before .before .before .before .before .before .before .before .before .args in let e = c .before .before .before .before .exact-best .ensures in (first-stage (a .s) (windowOf 14 (a .samples .now)) (e .0) (c .if1 .taken), e .1)
+returns c =
+    let a = c .before .before .before .before .before .before .before .before .before .before .before .before .before .args in
+    let e = c .before .before .before .before .exact-best .ensures in
+    (first-stage (a .s) (windowOf 14 (a .samples .now)) (e .0) (c .if1 .taken), e .1)
 
 same-length-2 : tie.Need-same-length-2
 same-length-2 c = search needs
 
 returns-2 : tie.Need-returns-2
-returns-2 c = let a = c .before .before .before .before .before .before .before .before .before .before .before .before .before .before .args in let e = c .before .before .before .before .before .before .exact-best .ensures in (only-stage (a .s) (windowOf 14 (a .samples .now)) (c .if2 .taken) (e .0), e .1)
+returns-2 c =
+    let a = c .before .before .before .before .before .before .before .before .before .before .before .before .before .before .before .args in
+    let e = c .before .before .before .before .before .before .exact-best .ensures in
+    (only-stage (a .s) (windowOf 14 (a .samples .now)) (c .if2 .taken) (e .0), e .1)
 
 repaired-best-requires : tie.Need-repaired-best-requires
-repaired-best-requires c κs = let s = c .before .before .before .before .before .before .before .before .before .before .before .before .before .before .before in let a = s .args in let e = c .before .before .before .before .before .before .before .exact-best .ensures in (s .pre .0, s .pre .1, read-none (best long (atLevel 0 (a .s)) (windowOf 14 (a .samples .now))) (e .0) (c .before .before .before .if1 .left), e .1 .size)
+repaired-best-requires c κs =
+    let s = c .before .before .before .before .before .before .before .before .before .before .before .before .before .before .before .before in
+    let a = s .args in
+    let e = c .before .before .before .before .before .before .before .exact-best .ensures in
+    (s .pre .0, s .pre .1, read-none (best long (atLevel 0 (a .s)) (windowOf 14 (a .samples .now))) (e .0) (c .before .before .before .if1 .left), e .1 .size, s .pre .3)
 
 same-length-3 : tie.Need-same-length-3
 same-length-3 c = search needs

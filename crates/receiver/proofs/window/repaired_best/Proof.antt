@@ -1,5 +1,4 @@
--- `receiver::window::repaired_best` meets its contract: at a place that is not listed no repair clears either message.
--- Assumes nothing.
+-- `receiver::window::repaired_best` meets its contract: at a place that is not listed no repair clears either message. Assumes nothing.
 use mathlib.Core.Path.{refl}
 use lib.ListN.{replicate}
 use Rattle.receiver.proofs.Weighing.{level-low}
@@ -26,19 +25,19 @@ slice-aggregate-best-listed-2 c = search needs
 
 best-listed-requires : tie.Need-best-listed-requires
 best-listed-requires c κs =
-    let s = c .before .before .before .before .before .before .before .before .before .before .before .before .before .before in
+    let s = c .before .before .before .before .before .before .before .before .before .before .before .before .before .before .before in
     let a = s .args in
     let z = scanned-sizes (a .samples .now) (a .coherent .now) (a .noncoherent .now) (a .crcs .now) (a .others .now) (s .pre .0) in
     let low = level-low (a .s) (s .pre .1) in
     let t = repaired-taken (a .s .level) (a .crcs .now) (a .others .now) (replicate 248 0) (replicate 496 0) (z .first-crcs) (z .second-crcs) refl refl low (c .before .before .before .before .before .find-repairable .ensures) in
-    (s .pre .0, t .listing, s .pre .1, s .pre .3)
+    (s .pre .0, t .listing, s .pre .1, s .pre .3, s .pre .4)
 
 same-length : tie.Need-same-length
 same-length c = search needs
 
 returns : tie.Need-returns
 returns c =
-    let s = c .before .before .before .before .before .before .before .before .before .before .before .before .before .before .before .before .before in
+    let s = c .before .before .before .before .before .before .before .before .before .before .before .before .before .before .before .before .before .before in
     let a = s .args in
     let z = scanned-sizes (a .samples .now) (a .coherent .now) (a .noncoherent .now) (a .crcs .now) (a .others .now) (s .pre .0) in
     let low = level-low (a .s) (s .pre .1) in

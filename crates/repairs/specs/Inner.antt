@@ -1,13 +1,12 @@
 -- What private functions rest on: no public contract cites it.
--- The rules of the two sorted tables: an entry is a remainder in front of the 8 bits of a position.
+-- The rules of the sorted tables: an entry is a remainder in front of the 8 bits of a position.
 -- Assumes nothing.
 use mathlib.Core.Path.{_≡_}
 use mathlib.Core.List.{List}
-use Prim.Native.Nat.{ℕ, _/_, _%_, _<_, _≤_}
+use Prim.Native.Nat.{ℕ, _/_, _%_, _^_, _<_, _≤_}
 use lib.ListN.{getD, length}
 use Rattle.annex10.specs.declared.Repairs.the-variants.{One, Two}
 use Rattle.annex10.specs.Repair.{Proper, pattern}
-use Rattle.repairs.specs.Codes.{codeUpTo, codesUpTo}
 
 -- the entry at i; its remainder; its position
 abbrev pub remainderAt : List ℕ → ℕ → ℕ
@@ -33,20 +32,11 @@ pub record SingleTable (t : List ℕ) : Type 0 where
   pub right : (i : ℕ) → i < length t → pattern 14 (One (positionAt t i)) ≡ remainderAt t i
   pub there : (j : ℕ) → Proper 14 (One j) → (i : ℕ) × (i < length t) × (remainderAt t i ≡ pattern 14 (One j))
 
--- double errors, with the second positions in a table of their own
-pub record DoubleTable (t second : List ℕ) : Type 0 where
+-- double errors, with the second positions in a table of their own: each pair is there whose remainder's top four bits are the part
+pub record DoubleTable (part : ℕ) (t second : List ℕ) : Type 0 where
   pub as-long : length second ≡ length t
   pub rises : (p q : ℕ) → p < q → q < length t → remainderAt t p < remainderAt t q
   pub proper : (i : ℕ) → i < length t → Proper 14 (Two (positionAt t i) (getD second i 0))
   pub right : (i : ℕ) → i < length t → pattern 14 (Two (positionAt t i) (getD second i 0)) ≡ remainderAt t i
-  pub there : (j k : ℕ) → Proper 14 (Two j k) → (i : ℕ) × (i < length t) × (remainderAt t i ≡ pattern 14 (Two j k))
-
--- one remainder: r is 0 where two positions clear no more than one does; elsewhere one clears nothing
-pub record Left (crc r : ℕ) : Type 0 where
-  pub few : r ≤ 1
-  pub none : r ≡ 0 → codeUpTo 2 crc ≡ codeUpTo 1 crc
-  pub some : (r ≡ 0 → ⊥) → codeUpTo 1 crc ≡ 65536
-
--- many: r is 0 only where that is so for each
-pub record NoneLeft (crcs : List ℕ) (r : ℕ) : Type 0 where
-  pub same : r ≡ 0 → codesUpTo 2 crcs ≡ codesUpTo 1 crcs
+  pub there : (j k : ℕ) → Proper 14 (Two j k) → pattern 14 (Two j k) / 2 ^ 20 ≡ part
+      → (i : ℕ) × (i < length t) × (remainderAt t i ≡ pattern 14 (Two j k))

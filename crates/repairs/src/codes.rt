@@ -1,13 +1,14 @@
-// The codes of many remainders from lent tables, one number of positions after the other.
-use crate::search::double_in;
+// The codes of many remainders from the lent table of single errors and, where one position clears nothing, the part of the double ones.
+use crate::parts::double_of;
 use crate::search::single_in;
 use annex10::Found;
 use annex10::Repairs;
 ghost use mathlib.Core.Path.{_≡_};
+ghost use Prim.Native.Nat.{_≤_};
 ghost use lib.ListN.{length};
 ghost use Rattle.annex10.specs.Codes.{codeOf};
 ghost use Rattle.repairs.specs.Codes.{codeUpTo, codesUpTo};
-ghost use Rattle.repairs.specs.Inner.{SingleTable, DoubleTable, Left, NoneLeft};
+ghost use Rattle.repairs.specs.Inner.{SingleTable};
 
 // What is found, as a number.
 fn code_of(found: Found) -> u32
@@ -41,29 +42,30 @@ fn code_single(table: &[u32], crc: u32) -> u32
     code_of(single_in(table, crc))
 }
 
-// 0 where two positions clear no more than one does; 1 where they may.
-fn is_left(code: u32, crc: u32) -> usize
+// With at most two, from the code with at most one. A remainder above 24 bits lies in no part, and none is written out.
+fn code_double(code: u32, crc: u32) -> u32
     requires { ⌜ code ≡ codeUpTo 1 crc ⌝ }
-    ensures { λ r. ⌜ Left crc r ⌝ }
-{
-    if code < 0x10000 {
-        return 0;
-    }
-    if crc > 0xffffff {
-        return 0;
-    }
-    1
-}
-
-// With at most two, from the code with at most one.
-fn code_double(table: &[u32], second: &[u8], code: u32, crc: u32) -> u32
-    requires { ⌜ DoubleTable (now table) (now second) × (code ≡ codeUpTo 1 crc) ⌝ }
     ensures { λ r. ⌜ r ≡ codeUpTo 2 crc ⌝ }
 {
-    if is_left(code, crc) == 0 {
+    if code < 0x10000 {
         return code;
     }
-    code_of(double_in(table, second, crc))
+    code_of(double_of(crc))
+}
+
+// With at most `level`, from the code of the remainder before it: both slicers often have the same bits, and then that is its own.
+fn code_after(level: u32, table: &[u32], last: u32, code: u32, crc: u32) -> u32
+    requires { ⌜ SingleTable (now table) × (1 ≤ level) × (level ≤ 2) × (code ≡ codeUpTo level last) ⌝ }
+    ensures { λ r. ⌜ r ≡ codeUpTo level crc ⌝ }
+{
+    if crc == last {
+        return code;
+    }
+    let one = code_single(table, crc);
+    if level == 1 {
+        return one;
+    }
+    code_double(one, crc)
 }
 
 // The codes with no position.
@@ -76,27 +78,17 @@ pub fn exact(crcs: &[u32], codes: &mut [u32])
     }
 }
 
-// The codes with at most one; how many two positions may still clear.
-pub fn singles_in(table: &[u32], crcs: &[u32], codes: &mut [u32]) -> usize
-    requires { ⌜ SingleTable (now table) × (length (now codes) ≡ length (now crcs)) ⌝ }
-    ensures { λ r. ⌜ (now (codes .exit) ≡ codesUpTo 1 (now (crcs .entry))) × NoneLeft (now (crcs .entry)) r ⌝ }
+// The codes with at most `level`, which is 1 or 2. 0 is cleared by no position: it stands before the first.
+pub fn up_to_in(level: u32, table: &[u32], crcs: &[u32], codes: &mut [u32])
+    requires { ⌜ SingleTable (now table) × (1 ≤ level) × (level ≤ 2) × (length (now codes) ≡ length (now crcs)) ⌝ }
+    ensures { λ _. ⌜ now (codes .exit) ≡ codesUpTo level (now (crcs .entry)) ⌝ }
 {
-    let mut left: usize = 0;
+    let mut last = 0;
+    let mut code = 0xffff;
     for i in 0..codes.len() {
         let crc = crcs[i];
-        let code = code_single(table, crc);
+        code = code_after(level, table, last, code, crc);
+        last = crc;
         codes[i] = code;
-        left += is_left(code, crc);
-    }
-    left
-}
-
-// The codes with at most two, from those with at most one.
-pub fn doubles_in(table: &[u32], second: &[u8], crcs: &[u32], codes: &mut [u32])
-    requires { ⌜ DoubleTable (now table) (now second) × (now codes ≡ codesUpTo 1 (now crcs)) ⌝ }
-    ensures { λ _. ⌜ now (codes .exit) ≡ codesUpTo 2 (now (crcs .entry)) ⌝ }
-{
-    for i in 0..codes.len() {
-        codes[i] = code_double(table, second, codes[i], crcs[i]);
     }
 }

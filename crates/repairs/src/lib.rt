@@ -1,13 +1,12 @@
 // The positions of one or two wrong bits of a 14-byte message, from its remainder.
 mod codes;
+mod parts;
 pub mod rows;
 mod search;
 mod tables;
 
-use crate::search::double_in;
+use crate::parts::double_of;
 use crate::search::single_in;
-use crate::tables::DOUBLE;
-use crate::tables::SECOND;
 use crate::tables::SINGLE;
 use annex10::Found;
 ghost use mathlib.Core.Path.{_≡_};
@@ -24,5 +23,5 @@ pub fn single_bit_error_from_crc24(crc: u32) -> Found
 pub fn double_bit_error_from_crc24(crc: u32) -> Found
     ensures { λ r. ⌜ r ≡ clearing 14 2 crc ⌝ }
 {
-    double_in(&DOUBLE, &SECOND, crc)
+    double_of(crc)
 }

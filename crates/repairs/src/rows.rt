@@ -1,30 +1,19 @@
-// The same for many remainders at once, as codes. A constant is written out at the start of the function that lends it: so each table
-// has its own, and that of two positions is called only where it is needed.
-use crate::codes::doubles_in;
+// The same for many remainders at once, as codes. A constant is written out at the start of the function that lends it: so the table of
+// single errors has its own, and is lent once for all of them.
 use crate::codes::exact;
-use crate::codes::singles_in;
-use crate::tables::DOUBLE;
-use crate::tables::SECOND;
+use crate::codes::up_to_in;
 use crate::tables::SINGLE;
 ghost use mathlib.Core.Path.{_≡_};
+ghost use Prim.Native.Nat.{_≤_};
 ghost use lib.ListN.{length};
 ghost use Rattle.repairs.specs.Codes.{codesUpTo, codesUpToInto};
-ghost use Rattle.repairs.specs.Inner.{NoneLeft};
 
-// With at most one position; how many two may still clear.
-fn singles(crcs: &[u32], codes: &mut [u32]) -> usize
-    requires { ⌜ length (now codes) ≡ length (now crcs) ⌝ }
-    ensures { λ r. ⌜ (now (codes .exit) ≡ codesUpTo 1 (now (crcs .entry))) × NoneLeft (now (crcs .entry)) r ⌝ }
+// With at most `level`, which is 1 or 2.
+fn up_to(level: u32, crcs: &[u32], codes: &mut [u32])
+    requires { ⌜ (1 ≤ level) × (level ≤ 2) × (length (now codes) ≡ length (now crcs)) ⌝ }
+    ensures { λ _. ⌜ now (codes .exit) ≡ codesUpTo level (now (crcs .entry)) ⌝ }
 {
-    singles_in(&SINGLE, crcs, codes)
-}
-
-// With at most two, from the codes with at most one.
-fn doubles(crcs: &[u32], codes: &mut [u32])
-    requires { ⌜ now codes ≡ codesUpTo 1 (now crcs) ⌝ }
-    ensures { λ _. ⌜ now (codes .exit) ≡ codesUpTo 2 (now (crcs .entry)) ⌝ }
-{
-    doubles_in(&DOUBLE, &SECOND, crcs, codes);
+    up_to_in(level, &SINGLE, crcs, codes);
 }
 
 // For each remainder the fewest positions, at most `level`, as a code. Refused: 3 where there are not as many codes as remainders, 4 a
@@ -42,13 +31,6 @@ pub fn bit_errors_from_crc24s(level: u32, crcs: &[u32], codes: &mut [u32]) -> u3
         exact(crcs, codes);
         return 0;
     }
-    let left = singles(crcs, codes);
-    if level == 1 {
-        return 0;
-    }
-    if left == 0 {
-        return 0;
-    }
-    doubles(crcs, codes);
+    up_to(level, crcs, codes);
     0
 }

@@ -2,6 +2,7 @@
 use annex10::Found;
 use annex10::Repairs;
 ghost use mathlib.Core.Path.{_≡_};
+ghost use Prim.Native.Nat.{_/_, _^_};
 ghost use Rattle.annex10.specs.Repair.{clearing};
 ghost use Rattle.repairs.specs.Inner.{Ascending, Placed, SingleTable, DoubleTable};
 
@@ -38,9 +39,9 @@ pub fn single_in(table: &[u32], crc: u32) -> Found
     Found::Nothing
 }
 
-// The search in the table of double errors and its second positions.
+// The search in the part of the table of double errors that crc lies in, and in the second positions of that part.
 pub fn double_in(table: &[u32], second: &[u8], crc: u32) -> Found
-    requires { ⌜ DoubleTable (now table) (now second) ⌝ }
+    requires { ⌜ DoubleTable (crc / 2 ^ 20) (now table) (now second) ⌝ }
     ensures { λ r. ⌜ r ≡ clearing 14 2 crc ⌝ }
 {
     let i = place(table, crc);

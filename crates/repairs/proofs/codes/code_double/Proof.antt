@@ -1,27 +1,22 @@
 -- `repairs::codes::code_double` meets its contract. Assumes nothing.
 use borrow.Author.Needs.{needs}
-use mathlib.Core.Path.{sym, _∙_}
-use Rattle.repairs.proofs.Coding.{code-two}
+use Rattle.repairs.proofs.Coding.{coded, code-two}
 use Rattle.repairs.proofs.codes.code_double.Statement.{statement}
 use Rattle.repairs.proofs.codes.code_double.Tie as tie
 
-is-left-requires : tie.Need-is-left-requires
-is-left-requires c κs = search needs
-
 returns : tie.Need-returns
-returns c = c .before .before .before .before .pre .1 ∙ sym (c .before .is-left .ensures .none (c .if1 .taken))
+returns c = coded (c .before .args .crc) (c .before .pre) (c .if1 .taken)
 
-double-in-requires : tie.Need-double-in-requires
-double-in-requires c κs = search needs
+double-of-requires : tie.Need-double-of-requires
+double-of-requires c κs = search needs
 
 code-of-requires : tie.Need-code-of-requires
 code-of-requires c κs = search needs
 
 returns-2 : tie.Need-returns-2
 returns-2 c =
-    code-two (c .before .before .before .before .before .before .args .crc) (c .before .before .before .is-left .ensures .some (c .before .before .if1 .left))
-    (c .before .double-in .ensures) (c .code-of .ensures)
+    let a = c .before .before .before in
+    code-two (a .args .crc) (a .pre) (c .before .before .if1 .left) (c .before .double-of .ensures) (c .code-of .ensures)
 
 pub code-double-spec : {M : Type 1} → statement M
-code-double-spec =
-    tie.close (tie.spec is-left-requires returns double-in-requires code-of-requires returns-2)
+code-double-spec = tie.close (tie.spec returns double-of-requires code-of-requires returns-2)

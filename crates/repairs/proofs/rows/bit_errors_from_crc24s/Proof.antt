@@ -1,7 +1,7 @@
 -- `repairs::rows::bit_errors_from_crc24s` meets its contract. Assumes nothing.
 use borrow.Author.Needs.{needs}
 use borrow.Author.Tests.{eq-eqb, ne-eqb, lt-leb}
-use mathlib.Core.Path.{sym, _∙_}
+use mathlib.Core.Path.{refl}
 use native.Mathlib.Omega.{arith}
 use denote.Ref.{now}
 use Rattle.repairs.specs.Codes.{codesUpToInto}
@@ -29,53 +29,19 @@ returns-3 c =
     into-done (a .level) 0 (now (a .crcs)) (now (a .codes)) _ (c .before .before .before .before .before .before .if1 .left) (c .before .before .before .before .if3 .taken) (omega arith)
     (c .before .before .exact .ensures)
 
-singles-requires : tie.Need-singles-requires
-singles-requires c κs = search needs
+up-to-requires : tie.Need-up-to-requires
+up-to-requires c κs = search needs
 
 same-length-2 : tie.Need-same-length-2
 same-length-2 c = search needs
 
 returns-4 : tie.Need-returns-4
 returns-4 c =
-    let a = c .before .before .before .before .before .before .before .before .before .before .args in
-    into-done (a .level) 1 (now (a .crcs)) (now (a .codes)) _ (c .before .before .before .before .before .before .before .if1 .left) (c .if4 .taken) (omega arith)
-    (c .before .before .before .singles .ensures .0)
-
-same-length-3 : tie.Need-same-length-3
-same-length-3 c = search needs
-
-returns-5 : tie.Need-returns-5
-returns-5 c =
-    let a = c .before .before .before .before .before .before .before .before .before .before .before .args in
-    into-done (a .level) 2 (now (a .crcs)) (now (a .codes)) _ (c .before .before .before .before .before .before .before .before .if1 .left) (omega (arith, c .before .before .before .before .before .before .before .if2 .left, c .before .before .before .before .before .before .if3 .left, c .before .if4 .left)) (omega arith)
-    (c .before .before .before .before .singles .ensures .0 ∙ sym (c .before .before .before .before .singles .ensures .1 .same (c .if5 .taken)))
-
-doubles-requires : tie.Need-doubles-requires
-doubles-requires c κs = search needs
-
-same-length-4 : tie.Need-same-length-4
-same-length-4 c = search needs
-
-returns-6 : tie.Need-returns-6
-returns-6 c =
-    let a = c .before .before .before .before .before .before .before .before .before .before .before .before .before .before .before .args in
-    into-done (a .level) 2 (now (a .crcs)) (now (a .codes)) _ (c .before .before .before .before .before .before .before .before .before .before .before .before .if1 .left) (omega (arith, c .before .before .before .before .before .before .before .before .before .before .before .if2 .left, c .before .before .before .before .before .before .before .before .before .before .if3 .left, c .before .before .before .before .before .if4 .left)) (omega arith)
-    (c .before .before .doubles .ensures)
+    let a = c .before .before .before .before .before .before .before .before .before .args in
+    into-done (a .level) (a .level) (now (a .crcs)) (now (a .codes)) _ (c .before .before .before .before .before .before .if1 .left) refl
+    (c .before .before .before .before .before .if2 .left) (c .before .before .up-to .ensures)
 
 pub bit-errors-from-crc24s-spec : {M : Type 1} → statement M
 bit-errors-from-crc24s-spec =
     tie.close
-    (tie.spec
-    returns
-    returns-2
-    exact-requires
-    same-length
-    returns-3
-    singles-requires
-    same-length-2
-    returns-4
-    same-length-3
-    returns-5
-    doubles-requires
-    same-length-4
-    returns-6)
+    (tie.spec returns returns-2 exact-requires same-length returns-3 up-to-requires same-length-2 returns-4)

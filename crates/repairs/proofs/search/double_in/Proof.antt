@@ -28,7 +28,7 @@ shared-slice-read-t15 c = search needs
 returns : tie.Need-returns
 returns c =
     let s = c .before .before .before .before .before .before .before in
-    double-hit (now (s .args .table)) (now (s .args .second)) (s .pre) (s .args .crc) (c .before .before .before .before .place .result)
+    double-hit _ (now (s .args .table)) (now (s .args .second)) (s .pre) (s .args .crc) (c .before .before .before .before .place .result)
     (c .before .before .before .if1 .taken) (c .before .if2 .taken)
 
 returns-2 : tie.Need-returns-2
@@ -36,14 +36,14 @@ unfolding Missing
 returns-2 c =
     let s = c .before .before .before .before .before .before in
     let p = c .before .before .before .place in
-    double-miss (now (s .args .table)) (now (s .args .second)) (s .pre) (s .args .crc) (p .result) (p .ensures) (λ _. c .if2 .left)
+    double-miss (now (s .args .table)) (now (s .args .second)) (s .args .crc) (s .pre) (p .result) (p .ensures) (λ _. c .if2 .left)
 
 returns-3 : tie.Need-returns-3
 unfolding Missing
 returns-3 c =
     let s = c .before .before .before .before in
     let p = c .before .place in
-    double-miss (now (s .args .table)) (now (s .args .second)) (s .pre) (s .args .crc) (p .result) (p .ensures)
+    double-miss (now (s .args .table)) (now (s .args .second)) (s .args .crc) (s .pre) (p .result) (p .ensures)
     (λ h. absurd (lt-irrefl (p .result) (lt-of-lt-of-le h (c .if1 .left))))
 
 pub double-in-spec : {M : Type 1} → statement M

@@ -24,10 +24,11 @@ use Rattle.repairs.specs.Codes.{codeUpTo, codesUpTo, codesUpToInto}
 use Rattle.sieve.specs.declared.list.Shape.{Shape}
 use Rattle.sieve.specs.declared.Listed.{Listed}
 use Rattle.scan.specs.Sieve.{kept, laneOf, onto}
+use Rattle.scan.proofs.Keeping.{kept-none, below}
 use Rattle.sieve.specs.Repairable.{repairable, repairableAt, repairablePlaces, codePairs, repairableIn, repairableInto}
 use Rattle.sieve.specs.Inner.{letIn, Owners, asks, Within, Gathered, Sifted, taken, picked, pickedCodes, keptIn}
 use Rattle.sieve.proofs.Clears.{coded}
-use Rattle.sieve.proofs.Listing.{kept-none, kept-lt, among, among-snoc, among-kept, onto-none, onto-more}
+use Rattle.sieve.proofs.Listing.{among, among-snoc, among-kept, onto-none, onto-more}
 use Rattle.sieve.proofs.Owning.{asks-same, let-places}
 
 -- ---- asked
@@ -210,7 +211,7 @@ through-within f through n e h q =
     record {
       each = λ m l.
           let z : length (kept f 248) ≡ n = sym (ap length q) ∙ length-take-le n through (omega arith) in
-          subst (λ (x : ℕ). x < 248) (sym (ap (λ (xs : List ℕ). getD xs m 0) q) ∙ getD-take n through m 0 l) (kept-lt f 248 m (omega (arith, z)));
+          subst (λ (x : ℕ). x < 248) (sym (ap (λ (xs : List ℕ). getD xs m 0) q) ∙ getD-take n through m 0 l) (below f 248 .low m (omega (arith, z)));
     }
 
 abbrev answered : ℕ × List ℕ × List ℕ → Listed × List ℕ × List ℕ
@@ -279,7 +280,7 @@ module _ (level : ℕ) (crcs others : List ℕ) where
 pub level-zero : (crcs others list codes : List ℕ) → (record { number = 0; count = 0 }, list, codes) ≡ repairableIn 0 crcs others list codes
 unfolding repairableIn repairablePlaces codePairs repairableAt repairable
 level-zero crcs others list codes =
-    let p : [] ≡ kept (repairableAt 0 crcs others) 248 = sym (kept-none (repairableAt 0 crcs others) none 248) in
+    let p : [] ≡ kept (repairableAt 0 crcs others) 248 = sym (kept-none (repairableAt 0 crcs others) 248 (λ k l. none k)) in
     rw (← p) (ap₂ (λ (a b : List ℕ). answered (0, a, b)) (onto-none list) (onto-none codes))
   where
     none : (k : ℕ) → repairableAt 0 crcs others k ≡ false

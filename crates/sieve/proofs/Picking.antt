@@ -21,10 +21,10 @@ use lib.Seq.{getD-set-same, getD-set-other, getD-take, length-take-le, take-at, 
 use Rattle.lists.specs.Bits.{asBit}
 use Rattle.lists.proofs.Table.{length-tabulate, getD-tabulate}
 use Rattle.repairs.specs.Codes.{codeUpTo, codesUpTo, codesUpToInto}
-use Rattle.sieve.specs.declared.list.Shape.{Shape}
-use Rattle.sieve.specs.declared.Listed.{Listed}
+use Rattle.scan.specs.declared.list.Listed.{Listed}
 use Rattle.scan.specs.Sieve.{kept, laneOf, onto}
 use Rattle.scan.proofs.Keeping.{kept-none, below}
+use Rattle.sieve.specs.declared.list.Shape.{Shape}
 use Rattle.sieve.specs.Repairable.{repairable, repairableAt, repairablePlaces, codePairs, repairableIn, repairableInto}
 use Rattle.sieve.specs.Inner.{letIn, Owners, asks, Within, Gathered, Sifted, taken, picked, pickedCodes, keptIn}
 use Rattle.sieve.proofs.Clears.{coded}

@@ -24,6 +24,7 @@ use lib.Seq.{take-suc, drop-cons, set-at, append-snoc, length-take-le}
 use Rattle.lists.specs.From.{tabulate}
 use Rattle.lists.specs.Bits.{asBit}
 use Rattle.lists.proofs.Table.{length-tabulate, getD-tabulate}
+use Rattle.kernels.proofs.Slicing.{asBit-lt}
 use Rattle.scan.specs.declared.list.Listed.{Listed}
 use Rattle.scan.specs.Sieve.{kept, laneOf, onto}
 use Rattle.scan.specs.Exact.{cleanAt, exact, listOf, exactInto}
@@ -50,10 +51,6 @@ unfolding exactMark cleanAt
 exact-bit coherent noncoherent crcs others i e g =
     let s : i + 8 ≡ 8 + i = omega arith in
     rw (e, g, s) (or-bits (eqb (getD crcs i 0) 0 && eqb (getD coherent (8 + i) 0) 1) (eqb (getD others i 0) 0 && eqb (getD noncoherent (8 + i) 0) 1))
-
-asBit-lt : (t : Bool) → asBit t < 2
-asBit-lt true = lit< tt
-asBit-lt false = lit< tt
 
 pub marks-of : (coherent noncoherent crcs others : List ℕ) {marks : List ℕ} → marks ≡ exactMarks coherent noncoherent crcs others → Marks marks
 unfolding exactMarks exactMark

@@ -17,7 +17,7 @@ use borrow.Author.Count.{below-more}
 use borrow.Author.Tests.{eq-eqb, le-leb}
 use lib.Dec.{ltb}
 use lib.ListN.{length, getD, set, take, length-set, length-append}
-use lib.Seq.{getD-set-same, getD-set-other, getD-take, length-take-le, take-at, take-suc}
+use lib.Seq.{getD-set-same, getD-set-other, getD-take, length-take-le, take-at, take-suc, append-snoc}
 use Rattle.lists.specs.Bits.{asBit}
 use Rattle.lists.proofs.Table.{length-tabulate, getD-tabulate}
 use Rattle.repairs.specs.Codes.{codeUpTo, codesUpTo, codesUpToInto}
@@ -135,10 +135,6 @@ pub record Kept (through told list₀ codes₀ : List ℕ) (m n : ℕ) (list cod
   pub places : list ≡ onto (picked through told m) list₀
   pub pairs : codes ≡ onto (pickedCodes told m) codes₀
 
-snoc2 : (xs : List ℕ) (a b : ℕ) → (xs ++ (a ∷ [])) ++ (b ∷ []) ≡ xs ++ (a ∷ b ∷ [])
-snoc2 [] a b = refl
-snoc2 (x ∷ xs) a b = ap (λ (l : List ℕ). x ∷ l) (snoc2 xs a b)
-
 is-true : (t : Bool) → asBit t ≡ 1 → t ≡ true
 is-true true e = refl
 is-true false e = absurd (omega arith)
@@ -177,7 +173,7 @@ module _ (through told list₀ codes₀ : List ℕ) where
             rw (add-one m, t, k .pairs)
             (ap (λ (l : List ℕ). set l (2 * n + 1) b) (onto-more cs codes₀ a (2 * n) (k .twice) (omega (arith, k .few)))
             ∙ onto-more (cs ++ (a ∷ [])) codes₀ b (2 * n + 1) lc (omega (arith, k .few))
-            ∙ ap (λ (l : List ℕ). onto l codes₀) (snoc2 cs a b));
+            ∙ ap (λ (l : List ℕ). onto l codes₀) (append-snoc cs a (b ∷ [])));
       }
 
   pub kept-left : (m n x : ℕ) (list codes : List ℕ) → x ≡ asBit (taken told m) → (x ≡ 1 → ⊥)

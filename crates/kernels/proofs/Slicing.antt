@@ -2,6 +2,7 @@
 --     bit-inside                  a bit with two symbols
 --     real-bit, norm-bit          the same in a loop over the bits of both streams in turn
 --     bits-done                   all of them are stored
+--     asBit-lt, either            the bit of a test is below 2, and such a bit or 0
 --     slicedBit-lt                a bit is below 2
 --     sliced-length, bit-sliced   a stream has 18 bytes, and its bits are those of the slicer
 --     streams-length              both streams, one after the other
@@ -65,11 +66,11 @@ bits-done slicer row xs i a b r =
     let e : i ≡ 287 = omega arith in
     done-all 0 f 288 (set xs 287 0) (287 + 1) (omega arith) (done-more 0 f 288 xs 287 0 (omega arith) (rw e at r) (last-bit slicer row))
 
-asBit-lt : (t : Bool) → asBit t < 2
+pub asBit-lt : (t : Bool) → asBit t < 2
 asBit-lt true = lit< tt
 asBit-lt false = lit< tt
 
-either : (t : Bool) {n : ℕ} → n < 2 → cond t n 0 < 2
+pub either : (t : Bool) {n : ℕ} → n < 2 → cond t n 0 < 2
 either true h = h
 either false h = lit< tt
 

@@ -5,17 +5,16 @@
 --     exact-finds    what clears a remainder without repairs
 -- Assumes nothing.
 use mathlib.Core.Path.{_≡_, refl, sym, ap, _∙_, subst}
-use mathlib.Core.Bool.{Bool, true, false, cond}
-use mathlib.Core.List.{List, [], _∷_, _++_}
+use mathlib.Core.Bool.{Bool, true, false}
+use mathlib.Core.List.{List}
 use mathlib.Core.Option.{Option, none}
 use Prim.Native.Nat.{ℕ, zero, suc, _+_, _-_, _<_, _≤_}
-use native.Mathlib.Decide.{decLt}
 use native.Mathlib.Numerals.{add-one}
 use native.Mathlib.Omega.{arith}
 use borrow.Author.Tests.{eq-eqb, ne-eqb, eqb-true, eqb-false}
 use lib.Dec.{eqb}
 use lib.ListN.{length, getD, take, drop, length-append, length-drop, List·getD-append}
-use lib.Seq.{take-at, take-suc, getD-append-seam}
+use lib.Seq.{take-at, take-suc}
 use Rattle.lists.specs.From.{tabulate}
 use Rattle.annex10.specs.Any.{only}
 use Rattle.annex10.specs.Repair.{pattern, clearing, fitting}
@@ -32,34 +31,11 @@ use Rattle.choice.specs.Chosen.{chosenSurvivor}
 use Rattle.choice.proofs.Choosing.{chosen-better}
 use Rattle.scan.specs.Sieve.{kept, laneOf, onto}
 use Rattle.scan.proofs.Starting.{place-start}
+use Rattle.scan.proofs.Keeping.{below}
 use Rattle.receiver.specs.Inner.{Finds, foundInside, foundOf, foundBy, over}
 use Rattle.receiver.proofs.Kept.{over-more, scan-kept}
 
 -- ---- the front
-
-record Below (ks : List ℕ) (n : ℕ) : Type 0 where
-  few : length ks ≤ n
-  low : (q : ℕ) → q < length ks → getD ks q 0 < n
-
-one-more : (ks : List ℕ) (n : ℕ) → Below ks n → Below (ks ++ (n ∷ [])) (suc n)
-one-more ks n b =
-    let l : length (ks ++ (n ∷ [])) ≡ length ks + 1 = length-append ks (n ∷ []) in
-    record { few = omega (arith, l, b .few); low = λ q h. go q (decLt q (length ks)) (omega (arith, l)) }
-  where
-    go : (q : ℕ) → Dec (q < length ks) → q < length ks + 1 → getD (ks ++ (n ∷ [])) q 0 < suc n
-    go q (yes h) g = subst (λ (x : ℕ). x < suc n) (sym (List·getD-append ks (n ∷ []) 0 q h)) (omega (arith, b .low q h))
-    go q (no h) g =
-        let e : q ≡ length ks = omega arith in
-        subst (λ (x : ℕ). x < suc n) (sym (ap (λ (i : ℕ). getD (ks ++ (n ∷ [])) i 0) e ∙ getD-append-seam ks n [] 0)) (omega arith)
-
-below : (t : ℕ → Bool) (n : ℕ) → Below (kept t n) n
-unfolding kept
-below t zero = record { few = omega arith; low = λ q h. absurd (omega arith) }
-below t (suc n) = go (t n) (below t n)
-  where
-    go : (b : Bool) → Below (kept t n) n → Below (cond b (kept t n ++ (n ∷ [])) (kept t n)) (suc n)
-    go true b = one-more (kept t n) n b
-    go false b = record { few = omega (arith, b .few); low = λ q h. omega (arith, b .low q h) }
 
 -- the numbers that a test takes, in the front of a list of 248
 pub record Front (t : ℕ → Bool) (list : List ℕ) (count : ℕ) : Type 0 where

@@ -25,7 +25,7 @@ use Rattle.annex10.proofs.Unique.{apart-14}
 use Rattle.annex10.proofs.UpTo.{up-to-found, only-up-to, up-to-zero}
 use Rattle.repairs.specs.Codes.{codeUpTo, codesUpTo, codesUpToInto}
 use Rattle.scan.specs.Sieve.{kept, laneOf, onto}
-use Rattle.sieve.specs.declared.Listed.{Listed}
+use Rattle.scan.specs.declared.list.Listed.{Listed}
 use Rattle.sieve.specs.Repairable.{repairableAt, repairablePlaces, codePairs, repairableIn, repairableInto}
 use Rattle.sieve.proofs.Clears.{not-listed}
 use Rattle.scan.proofs.Starting.{crc-start}

@@ -24,6 +24,7 @@ use Rattle.search.specs.declared.Tried.{Tried}
 use Rattle.search.specs.declared.Tried.the-variants.{Pass, Fail}
 use Rattle.search.specs.Kinds.{Kind, long}
 use Rattle.search.specs.Trials.{checked, cleared, given, sixTrials, differ, trials, first, reading}
+use Rattle.search.proofs.Staging.{unasked, swap}
 use Rattle.receiver.specs.Inner.{foundInside, Finds, orTry}
 
 one-by-one : (x1 x2 x3 x4 x5 x6 : Tried) {t1 t2 t3 t4 t5 t6 : Tried}
@@ -49,17 +50,6 @@ stays t x e = e ∙ sym (ap (λ (u : Tried). orTry u x) e)
 given-true : (t : Tried) → given true t ≡ t
 unfolding given
 given-true t = refl
-
-unasked : (t u : Tried) → given false t ≡ given false u
-unfolding given
-unasked t u = refl
-
-swap : (a b : Bool) (t : Tried) → given a (given b t) ≡ given b (given a t)
-unfolding given
-swap true true t = refl
-swap true false t = refl
-swap false true t = refl
-swap false false t = refl
 
 given-both : (a b : Bool) (t : Tried) → given (a && b) t ≡ given a (given b t)
 unfolding given
@@ -94,7 +84,7 @@ module _ (level : ℕ) (coherent noncoherent : List ℕ) where
     where
       go : (b : Bool) → leb n level ≡ b → given b (checked long number slicer bits (only c n)) ≡ given b (checked long number slicer bits (cleared long bits n))
       go true e = ap (λ (o : Found). given true (checked long number slicer bits o)) (f .each n (leb-true n level e))
-      go false e = unasked (checked long number slicer bits (only c n)) (checked long number slicer bits (cleared long bits n))
+      go false e = unasked (checked long number slicer bits (only c n)) ∙ sym (unasked (checked long number slicer bits (cleared long bits n)))
 
   within : (b : Bool) (n number : ℕ) (slicer : Slicer) (bits : List ℕ) {c : Found} → Finds level (remainder bits) c
       → given (leb n level) (given b (checked long number slicer bits (only c n))) ≡ given (leb n level) (given b (checked long number slicer bits (cleared long bits n)))

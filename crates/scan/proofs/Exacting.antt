@@ -4,7 +4,7 @@
 --     no-candidate    and the place holds nothing at level 0
 -- Assumes nothing.
 use mathlib.Core.Path.{_≡_, refl, sym, ap, _∙_}
-use mathlib.Core.Bool.{Bool, true, false, _&&_, _||_, true≢false}
+use mathlib.Core.Bool.{Bool, true, false, _&&_, true≢false}
 use mathlib.Core.List.{List}
 use mathlib.Core.Option.{none}
 use Prim.Native.Nat.{ℕ, zero, suc, _+_, _*_, _/_, _^_, _<_, min}
@@ -35,6 +35,7 @@ use Rattle.scan.specs.Sieve.{laneOf}
 use Rattle.scan.specs.Exact.{cleanAt, exact}
 use Rattle.scan.specs.Inner.{Digits}
 use Rattle.scan.proofs.Starting.{bits-number, crc-start, digits-of}
+use Rattle.scan.proofs.Keeping.{or-none}
 
 -- ---- headers
 
@@ -54,10 +55,6 @@ unfolding longHeader
 low-header b h = rw (ne-eqb (b / 8) 17 (λ e. omega arith), ne-eqb (b / 8) 18 (λ e. omega arith))
 
 -- ---- trials
-
-or-none : (a b : Bool) → (a || b) ≡ false → (a ≡ false) × (b ≡ false)
-or-none false b e = (refl, e)
-or-none true b e = absurd (true≢false e)
 
 not-both : (a b : Bool) → (a && b) ≡ false → a ≡ true → b ≡ false
 not-both true b e q = e

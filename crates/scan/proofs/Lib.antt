@@ -3,5 +3,6 @@ pub mod Rolled
 pub mod Adding
 pub mod Starting
 pub mod Packing
+pub mod Keeping
 pub mod Listing
 pub mod Exacting

@@ -2,7 +2,7 @@
 --     clean-bit, exact-bit      the marks, as the code computes them
 --     marks-of                  a mark is 0 or 1, and there are 248
 --     mark-is                   where the mark of a place stands
---     kept-more, kept-same      one more place; two tests that are the same
+--     kept-same                 two tests that are the same
 --     exact-kept                the marked places are the exact ones
 --     any-more, none-kept       no place is marked
 --     copy-more, copy-length, copy-all     the loop that copies
@@ -13,31 +13,26 @@ use mathlib.Core.Path.{_≡_, refl, sym, ap, _∙_, subst}
 use mathlib.Core.Bool.{Bool, true, false, _&&_, _||_}
 use mathlib.Core.List.{List, [], _++_}
 use Prim.Native.Nat.{ℕ, zero, suc, _+_, _*_, _/_, _%_, _<_, _≤_}
-use native.Mathlib.Nat.{add-zero, le-refl}
 use native.Mathlib.Numerals.{add-one}
 use native.Mathlib.Decide.{ℕ-discrete}
 use native.Mathlib.Omega.{arith}
 use borrow.Author.Tests.{eq-eqb}
 use lib.Bits.{bitOr, bitAnd, or-add-and, and-le-l, and-le-r}
 use lib.Dec.{eqb, lit<}
-use lib.ListN.{length, getD, set, take, drop, length-append, length-drop, length-set, List·getD-eq-default}
-use lib.Seq.{take-suc, take-set-le, getD-set-same, drop-cons, set-at, append-snoc, length-take-le}
+use lib.ListN.{length, getD, set, take, drop, length-append, length-drop, List·getD-eq-default}
+use lib.Seq.{take-suc, drop-cons, set-at, append-snoc, length-take-le}
 use Rattle.lists.specs.From.{tabulate}
 use Rattle.lists.specs.Bits.{asBit}
 use Rattle.lists.proofs.Table.{length-tabulate, getD-tabulate}
+use Rattle.kernels.proofs.Slicing.{asBit-lt}
 use Rattle.scan.specs.declared.list.Listed.{Listed}
 use Rattle.scan.specs.Sieve.{kept, laneOf, onto}
 use Rattle.scan.specs.Exact.{cleanAt, exact, listOf, exactInto}
 use Rattle.scan.specs.Inner.{Marks, marked, anyOf, exactMark, exactMarks}
 use Rattle.scan.proofs.Starting.{lane-lt}
+use Rattle.scan.proofs.Keeping.{or-bits, lane-is, kept-none}
 
 -- ---- marks
-
-or-bits : (a b : Bool) → bitOr (asBit a) (asBit b) ≡ asBit (a || b)
-or-bits true true = refl
-or-bits true false = refl
-or-bits false true = refl
-or-bits false false = refl
 
 and-bits : (a b : Bool) → bitAnd (asBit a) (asBit b) ≡ asBit (a && b)
 and-bits true true = refl
@@ -57,10 +52,6 @@ exact-bit coherent noncoherent crcs others i e g =
     let s : i + 8 ≡ 8 + i = omega arith in
     rw (e, g, s) (or-bits (eqb (getD crcs i 0) 0 && eqb (getD coherent (8 + i) 0) 1) (eqb (getD others i 0) 0 && eqb (getD noncoherent (8 + i) 0) 1))
 
-asBit-lt : (t : Bool) → asBit t < 2
-asBit-lt true = lit< tt
-asBit-lt false = lit< tt
-
 pub marks-of : (coherent noncoherent crcs others : List ℕ) {marks : List ℕ} → marks ≡ exactMarks coherent noncoherent crcs others → Marks marks
 unfolding exactMarks exactMark
 marks-of coherent noncoherent crcs others e =
@@ -75,12 +66,6 @@ marks-of coherent noncoherent crcs others e =
 
 -- ---- places
 
-lane-is : (o k : ℕ) → k < 8 → 8 * o + 4 * (k % 2) + k / 2 ≡ laneOf (8 * o + k)
-lane-is o k h =
-    let a : (8 * o + k) / 8 ≡ o = omega arith in
-    let b : (8 * o + k) % 8 ≡ k = omega arith in
-    rw (a, b)
-
 eq-one : (b : ℕ) → b < 2 → b ≡ asBit (eqb b 1)
 eq-one zero h = refl
 eq-one (suc zero) h = refl
@@ -91,31 +76,10 @@ unfolding marked
 mark-is marks w o k h =
     ap (λ (i : ℕ). getD marks i 0) (lane-is o k h) ∙ eq-one (getD marks (laneOf (8 * o + k)) 0) (w .each (laneOf (8 * o + k)))
 
--- one more place, stored where the next that counts stands
-module _ (f : ℕ → Bool) (xs : List ℕ) (count n : ℕ) where
-  go : (t : Bool) → f n ≡ t → count < length xs → take count xs ≡ kept f n → take (count + asBit t) (set xs count n) ≡ kept f (suc n)
-  unfolding kept
-  go true q h e =
-      let s : count + 1 ≡ suc count = add-one count in
-      rw (q, s)
-      (take-suc (set xs count n) count 0 (rw (length-set xs count n) h)
-      ∙ rw (take-set-le count xs count n (le-refl count), getD-set-same xs count n 0 h, e))
-  go false q h e =
-      let s : count + 0 ≡ count = add-zero count in
-      rw (q, s) (take-set-le count xs count n (le-refl count) ∙ e)
-
-  pub kept-more : {b : ℕ} → b ≡ asBit (f n) → count < length xs → take count xs ≡ kept f n → take (count + b) (set xs count n) ≡ kept f (n + 1)
-  kept-more g h e = rw (g, add-one n) (go (f n) refl h e)
-
 pub kept-same : (f g : ℕ → Bool) (n : ℕ) → ((k : ℕ) → k < n → f k ≡ g k) → kept f n ≡ kept g n
 unfolding kept
 kept-same f g zero each = refl
 kept-same f g (suc n) each = rw (each n (omega arith), kept-same f g n (λ k h. each k (omega arith)))
-
-kept-none : (f : ℕ → Bool) (n : ℕ) → ((k : ℕ) → k < n → f k ≡ false) → kept f n ≡ []
-unfolding kept
-kept-none f zero each = refl
-kept-none f (suc n) each = rw (each n (omega arith)) (kept-none f n (λ k h. each k (omega arith)))
 
 eq-bit : (t : Bool) → eqb (asBit t) 1 ≡ t
 eq-bit true = refl

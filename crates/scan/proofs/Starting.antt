@@ -8,10 +8,9 @@
 --     digits-of, digits-made     they are bits, one for each sample
 --     reals-made, norms-made     what the calls of find_bits made
 -- Assumes nothing.
-use mathlib.Core.Path.{_≡_, refl, sym, ap, _∙_, subst}
-use mathlib.Core.Bool.{Bool, true, false, cond}
+use mathlib.Core.Path.{_≡_, sym, ap, _∙_, subst}
 use mathlib.Core.List.{List}
-use Prim.Native.Nat.{ℕ, zero, suc, _+_, _*_, _/_, _%_, _<_, _≤_}
+use Prim.Native.Nat.{ℕ, _+_, _*_, _/_, _%_, _<_, _≤_}
 use native.Mathlib.Nat.{mod-eq-of-lt}
 use native.Mathlib.Decide.{ℕ-discrete}
 use native.Mathlib.Omega.{arith}
@@ -20,7 +19,7 @@ use lib.Dec.{ltb, lit<}
 use lib.ListN.{getD, List·getD-eq-default}
 use lib.Ieee.{Float, lt, nan}
 use Rattle.lists.specs.From.{tabulate}
-use Rattle.lists.specs.Bits.{asBit, bitAt, value, packed}
+use Rattle.lists.specs.Bits.{bitAt}
 use Rattle.lists.proofs.Table.{length-tabulate, getD-tabulate, tabulate-is}
 use Rattle.annex10.specs.Remainder.{remainder}
 use Rattle.place.specs.declared.Place.{Place}
@@ -33,8 +32,9 @@ use Rattle.math.specs.Complex.{normOf}
 use Rattle.kernels.specs.Symbols.{complexAt, sumFrom, sumsOf, symbolOf}
 use Rattle.kernels.specs.Slices.{greaterBy, slicedBit, sliced}
 use Rattle.kernels.proofs.Summing.{row-symbol, sum-stands}
-use Rattle.kernels.proofs.Slicing.{bit-sliced}
+use Rattle.kernels.proofs.Slicing.{asBit-lt, either, bit-sliced}
 use Rattle.streams.specs.Streams.{messageAt}
+use Rattle.streams.proofs.Parting.{same-packed}
 use Rattle.search.specs.Seen.{row, stream, bitsAt}
 use Rattle.scan.specs.Flat.{startBit, bitsFrom, messageFrom, crcIn, crcsIn}
 use Rattle.scan.specs.Sieve.{laneOf}
@@ -105,22 +105,11 @@ start-bit slicer s k t i hk ht hi =
 
 -- ---- messages
 
-value-same : (f g : ℕ → ℕ) (i n : ℕ) → ((m : ℕ) → m < n → f (i + m) ≡ g (i + m)) → value f i n ≡ value g i n
-unfolding value
-value-same f g i zero each = refl
-value-same f g i (suc n) each = rw (value-same f g i n (λ m l. each m (omega arith)), each n (omega arith))
-
-packed-same : (n : ℕ) (f g : ℕ → ℕ) → ((j : ℕ) → j < 8 * n → f j ≡ g j) → packed n f ≡ packed n g
-unfolding packed
-packed-same n f g each =
-    tabulate-is 0 (λ (k : ℕ). value g (8 * k) 8) n (tabulate n (λ (k : ℕ). value f (8 * k) 8)) (length-tabulate n (λ (k : ℕ). value f (8 * k) 8))
-    (λ k h. getD-tabulate n (λ (k : ℕ). value f (8 * k) 8) k 0 h ∙ value-same f g (8 * k) 8 (λ m l. each (8 * k + m) (omega arith)))
-
 pub bits-start : (n : ℕ) (slicer : Slicer) (s : List Float) (p : Place) → p .phase < 4 → p .symbol < 2 → p .bit + 8 * n ≤ 144
     → bitsAt n s slicer p ≡ messageFrom n (bitsFrom slicer s) (sampleStart p)
 unfolding bitsAt messageAt stream messageFrom
 bits-start n slicer s p hk ht hb =
-    packed-same n (λ (j : ℕ). bitAt (sliced slicer (row s (p .phase)) (p .symbol)) (p .bit + j)) (λ (j : ℕ). getD (bitsFrom slicer s) (sampleStart p + 8 * j) 0)
+    same-packed n (λ (j : ℕ). bitAt (sliced slicer (row s (p .phase)) (p .symbol)) (p .bit + j)) (λ (j : ℕ). getD (bitsFrom slicer s) (sampleStart p + 8 * j) 0)
     (λ j h.
     let e : 8 * (p .bit + j) + 4 * p .symbol + p .phase ≡ sampleStart p + 8 * j = omega arith in
     bit-sliced slicer (row s (p .phase)) (p .symbol) (p .bit + j) (omega arith)
@@ -165,14 +154,6 @@ module _ (n m k : ℕ) (h : m + 8 * n < 144) (l : k < 8 * m) where
 
 -- ---- they are bits
 
-asBit-lt : (t : Bool) → asBit t < 2
-asBit-lt true = lit< tt
-asBit-lt false = lit< tt
-
-either : (t : Bool) {n : ℕ} → n < 2 → cond t n 0 < 2
-either true h = h
-either false h = lit< tt
-
 startBit-lt : (slicer : Slicer) (s : List Float) (p : ℕ) → startBit slicer s p < 2
 unfolding startBit
 startBit-lt slicer s p = either (ltb (p + 4) 1152) (asBit-lt (greaterBy slicer (sumFrom s p 4) (sumFrom s (p + 4) 4)))
@@ -197,7 +178,7 @@ pub stream-lane : (slicer : Slicer) (s : List Float) (p : Place) → p .phase < 
 unfolding laneBytes laneBit stream sliced
 stream-lane slicer s p hk ht =
     let t = 4 * p .symbol + p .phase in
-    packed-same 18 (λ (j : ℕ). getD (bitsFrom slicer s) (t + 8 * j) 0 % 2) (slicedBit slicer (row s (p .phase)) (p .symbol))
+    same-packed 18 (λ (j : ℕ). getD (bitsFrom slicer s) (t + 8 * j) 0 % 2) (slicedBit slicer (row s (p .phase)) (p .symbol))
     (λ j h.
     let e : t + 8 * j ≡ 8 * j + 4 * p .symbol + p .phase = omega arith in
     mod-eq-of-lt (digits-of slicer s .each (t + 8 * j))

@@ -9,7 +9,7 @@ ghost use lib.ListN.{length, take};
 ghost use Rattle.scan.specs.Sieve.{kept};
 ghost use Rattle.scan.specs.Exact.{exact, exactInto};
 
-// How many places are listed: none where the call is refused.
+// A number, and how many places are listed; 0 with a refusal.
 pub struct Listed {
     pub number: u32,
     pub count: usize,

@@ -1,5 +1,6 @@
 -- The search in stages: what needs no repair first.
 --     exact-first    what is found at a lower level is what the search finds
+--     unasked, swap  a trial that is not asked for fails; two conditions of one, in either order
 --     exact-none     where nothing is held without repairs, no trial without repairs passes
 --     later-fails    then none passes where no positions clear either slicer's bits
 --     later-none     and the place holds nothing
@@ -60,9 +61,16 @@ unfolding given
 given-fail true = refl
 given-fail false = refl
 
-unasked : (t : Tried) → given false t ≡ Fail
+pub unasked : (t : Tried) → given false t ≡ Fail
 unfolding given
 unasked t = refl
+
+pub swap : (a b : Bool) (t : Tried) → given a (given b t) ≡ given b (given a t)
+unfolding given
+swap true true t = refl
+swap true false t = refl
+swap false true t = refl
+swap false false t = refl
 
 rest-fails : (t u : Tried) {x y z v : Tried} → first (t ∷ u ∷ []) ≡ Fail → x ≡ Fail → y ≡ Fail → z ≡ Fail → v ≡ Fail
     → first (t ∷ u ∷ x ∷ y ∷ z ∷ v ∷ []) ≡ Fail
@@ -106,13 +114,6 @@ module _ (kind : Kind) (coherent noncoherent : List ℕ) where
       go : (b : Bool) → leb n level ≡ b → given b (checked kind number slicer bits (cleared kind bits n)) ≡ Fail
       go true q = rw (h (leb-true n level q)) (missed number slicer bits)
       go false q = unasked (checked kind number slicer bits (cleared kind bits n))
-
-  swap : (a b : Bool) (t : Tried) → given a (given b t) ≡ given b (given a t)
-  unfolding given
-  swap true true t = refl
-  swap true false t = refl
-  swap false true t = refl
-  swap false false t = refl
 
   swapped : (n level : ℕ) (b : Bool) (number : ℕ) → (n ≤ level → cleared kind noncoherent n ≡ Nothing)
       → given (leb n level) (given b (checked kind number Noncoherent noncoherent (cleared kind noncoherent n))) ≡ Fail

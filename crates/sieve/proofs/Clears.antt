@@ -4,7 +4,7 @@
 --     not-listed            AT A PLACE THAT IS NOT LISTED no such number of positions clears either remainder
 -- Assumes nothing.
 use mathlib.Core.Path.{_≡_, refl, sym, ap, _∙_}
-use mathlib.Core.Bool.{Bool, true, false, _||_}
+use mathlib.Core.Bool.{Bool, true, false, true≢false}
 use mathlib.Core.List.{List}
 use Prim.Native.Nat.{ℕ, zero, suc, _≤_, _<_}
 use native.Mathlib.Decide.{ℕ-discrete}
@@ -24,16 +24,8 @@ use Rattle.annex10.proofs.Unique.{apart-14}
 use Rattle.annex10.proofs.UpTo.{ClearsUpTo, up-to-found, up-to-gone, zero-gone}
 use Rattle.repairs.specs.Codes.{codeUpTo}
 use Rattle.scan.specs.Sieve.{laneOf}
+use Rattle.scan.proofs.Keeping.{or-none}
 use Rattle.sieve.specs.Repairable.{isFound, repairable, repairableAt}
-
-pub or-left : (a b : Bool) → (a || b) ≡ false → a ≡ false
-or-left false b e = refl
-or-left true b e = e
-
-pub or-right : (a b : Bool) → (a || b) ≡ false → b ≡ false
-or-right false b e = e
-or-right true false e = refl
-or-right true true e = e
 
 pub rep-none : (level r : ℕ) → ((n : ℕ) → 1 ≤ n → n ≤ level → clearing 14 n r ≡ Nothing) → repairable level r ≡ false
 unfolding repairable
@@ -42,17 +34,14 @@ rep-none (suc level) r h = rw (rep-none level r (λ n a b. h n a (omega arith)),
 
 not-found : (o : Found) → isFound o ≡ false → o ≡ Nothing
 not-found Nothing e = refl
-not-found (At ρ) e = absurd (true-false e)
-  where
-    true-false : true ≡ false → ⊥
-    true-false q = let z : _≡_ {A = ℕ} 0 1 = cc in omega arith
+not-found (At ρ) e = absurd (true≢false e)
 
 pub rep-gone : (level r : ℕ) → repairable level r ≡ false → (n : ℕ) → 1 ≤ n → n ≤ level → clearing 14 n r ≡ Nothing
 unfolding repairable
 rep-gone zero r e n a b = absurd (omega arith)
 rep-gone (suc level) r e n a b = elim (ℕ-discrete n (suc level)) [
-  | yes q ↦ rw q (not-found (clearing 14 (suc level) r) (or-right (repairable level r) (isFound (clearing 14 (suc level) r)) e))
-  | no q ↦ rep-gone level r (or-left (repairable level r) (isFound (clearing 14 (suc level) r)) e) n a (omega arith)
+  | yes q ↦ rw q (not-found (clearing 14 (suc level) r) (or-none (repairable level r) (isFound (clearing 14 (suc level) r)) e .1))
+  | no q ↦ rep-gone level r (or-none (repairable level r) (isFound (clearing 14 (suc level) r)) e .0) n a (omega arith)
 ]
 
 rep-there : (level r n : ℕ) {ρ : Repairs} → 1 ≤ n → n ≤ level → clearing 14 n r ≡ At ρ → repairable level r ≡ true
@@ -92,7 +81,6 @@ pub not-listed : (level : ℕ) (crcs others : List ℕ) (k : ℕ) → repairable
 unfolding repairableAt
 not-listed level crcs others k e n a b =
     let x = getD crcs (laneOf k) 0 in
-    let y = getD others (laneOf k) 0 in (
-      rep-gone level x (or-left (repairable level x) (repairable level y) e) n a b,
-      rep-gone level y (or-right (repairable level x) (repairable level y) e) n a b,
-    )
+    let y = getD others (laneOf k) 0 in
+    let (p, q) = or-none (repairable level x) (repairable level y) e in
+    (rep-gone level x p n a b, rep-gone level y q n a b)

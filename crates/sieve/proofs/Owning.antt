@@ -30,11 +30,11 @@ use Rattle.annex10.proofs.UpTo.{up-to-none, none-not-zero, gone-high}
 use Rattle.repairs.specs.Codes.{codeUpTo}
 use Rattle.sieve.specs.declared.list.Shape.{Shape}
 use Rattle.scan.specs.Sieve.{laneOf}
+use Rattle.scan.proofs.Keeping.{or-none, or-bits, lane-is}
 use Rattle.sieve.specs.Repairable.{repairableAt}
 use Rattle.sieve.specs.Inner.{slotOf, lets, letIn, Shaped, Owners, asks}
 use Rattle.sieve.proofs.Placed.{placed, read, stands, read-is}
-use Rattle.sieve.proofs.Clears.{or-left, or-right, rep-none}
-use Rattle.sieve.proofs.Listing.{or-bits, lane-is}
+use Rattle.sieve.proofs.Clears.{rep-none}
 
 -- ---- the test: n bits name the owner, k choose the displacement, b are a slot's; ss are the remainders of the single positions
 
@@ -279,4 +279,5 @@ module _ (s : Shape) (d o : List ℕ) where
     let-places crcs others k e =
         let x = getD crcs (laneOf k) 0 in
         let y = getD others (laneOf k) 0 in
-        rw (rep-none level x (lets-gone x (or-left (lets s d o x) (lets s d o y) e)), rep-none level y (lets-gone y (or-right (lets s d o x) (lets s d o y) e)))
+        let (p, q) = or-none (lets s d o x) (lets s d o y) e in
+        rw (rep-none level x (lets-gone x p), rep-none level y (lets-gone y q))

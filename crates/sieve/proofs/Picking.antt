@@ -17,17 +17,18 @@ use borrow.Author.Count.{below-more}
 use borrow.Author.Tests.{eq-eqb, le-leb}
 use lib.Dec.{ltb}
 use lib.ListN.{length, getD, set, take, length-set, length-append}
-use lib.Seq.{getD-set-same, getD-set-other, getD-take, length-take-le, take-at, take-suc}
+use lib.Seq.{getD-set-same, getD-set-other, getD-take, length-take-le, take-at, take-suc, append-snoc}
 use Rattle.lists.specs.Bits.{asBit}
 use Rattle.lists.proofs.Table.{length-tabulate, getD-tabulate}
 use Rattle.repairs.specs.Codes.{codeUpTo, codesUpTo, codesUpToInto}
-use Rattle.sieve.specs.declared.list.Shape.{Shape}
-use Rattle.sieve.specs.declared.Listed.{Listed}
+use Rattle.scan.specs.declared.list.Listed.{Listed}
 use Rattle.scan.specs.Sieve.{kept, laneOf, onto}
+use Rattle.scan.proofs.Keeping.{kept-none, below}
+use Rattle.sieve.specs.declared.list.Shape.{Shape}
 use Rattle.sieve.specs.Repairable.{repairable, repairableAt, repairablePlaces, codePairs, repairableIn, repairableInto}
 use Rattle.sieve.specs.Inner.{letIn, Owners, asks, Within, Gathered, Sifted, taken, picked, pickedCodes, keptIn}
 use Rattle.sieve.proofs.Clears.{coded}
-use Rattle.sieve.proofs.Listing.{kept-none, kept-lt, among, among-snoc, among-kept, onto-none, onto-more}
+use Rattle.sieve.proofs.Listing.{among, among-snoc, among-kept, onto-none, onto-more}
 use Rattle.sieve.proofs.Owning.{asks-same, let-places}
 
 -- ---- asked
@@ -134,10 +135,6 @@ pub record Kept (through told list₀ codes₀ : List ℕ) (m n : ℕ) (list cod
   pub places : list ≡ onto (picked through told m) list₀
   pub pairs : codes ≡ onto (pickedCodes told m) codes₀
 
-snoc2 : (xs : List ℕ) (a b : ℕ) → (xs ++ (a ∷ [])) ++ (b ∷ []) ≡ xs ++ (a ∷ b ∷ [])
-snoc2 [] a b = refl
-snoc2 (x ∷ xs) a b = ap (λ (l : List ℕ). x ∷ l) (snoc2 xs a b)
-
 is-true : (t : Bool) → asBit t ≡ 1 → t ≡ true
 is-true true e = refl
 is-true false e = absurd (omega arith)
@@ -176,7 +173,7 @@ module _ (through told list₀ codes₀ : List ℕ) where
             rw (add-one m, t, k .pairs)
             (ap (λ (l : List ℕ). set l (2 * n + 1) b) (onto-more cs codes₀ a (2 * n) (k .twice) (omega (arith, k .few)))
             ∙ onto-more (cs ++ (a ∷ [])) codes₀ b (2 * n + 1) lc (omega (arith, k .few))
-            ∙ ap (λ (l : List ℕ). onto l codes₀) (snoc2 cs a b));
+            ∙ ap (λ (l : List ℕ). onto l codes₀) (append-snoc cs a (b ∷ [])));
       }
 
   pub kept-left : (m n x : ℕ) (list codes : List ℕ) → x ≡ asBit (taken told m) → (x ≡ 1 → ⊥)
@@ -210,7 +207,7 @@ through-within f through n e h q =
     record {
       each = λ m l.
           let z : length (kept f 248) ≡ n = sym (ap length q) ∙ length-take-le n through (omega arith) in
-          subst (λ (x : ℕ). x < 248) (sym (ap (λ (xs : List ℕ). getD xs m 0) q) ∙ getD-take n through m 0 l) (kept-lt f 248 m (omega (arith, z)));
+          subst (λ (x : ℕ). x < 248) (sym (ap (λ (xs : List ℕ). getD xs m 0) q) ∙ getD-take n through m 0 l) (below f 248 .low m (omega (arith, z)));
     }
 
 abbrev answered : ℕ × List ℕ × List ℕ → Listed × List ℕ × List ℕ
@@ -279,7 +276,7 @@ module _ (level : ℕ) (crcs others : List ℕ) where
 pub level-zero : (crcs others list codes : List ℕ) → (record { number = 0; count = 0 }, list, codes) ≡ repairableIn 0 crcs others list codes
 unfolding repairableIn repairablePlaces codePairs repairableAt repairable
 level-zero crcs others list codes =
-    let p : [] ≡ kept (repairableAt 0 crcs others) 248 = sym (kept-none (repairableAt 0 crcs others) none 248) in
+    let p : [] ≡ kept (repairableAt 0 crcs others) 248 = sym (kept-none (repairableAt 0 crcs others) 248 (λ k l. none k)) in
     rw (← p) (ap₂ (λ (a b : List ℕ). answered (0, a, b)) (onto-none list) (onto-none codes))
   where
     none : (k : ℕ) → repairableAt 0 crcs others k ≡ false

@@ -9,7 +9,7 @@ use Rattle.annex10.specs.declared.Found.{Found}
 use Rattle.annex10.specs.declared.Found.the-variants.{At, Nothing}
 use Rattle.annex10.specs.Repair.{clearing}
 use Rattle.repairs.specs.Codes.{codeUpTo}
-use Rattle.sieve.specs.declared.Listed.{Listed}
+use Rattle.scan.specs.declared.list.Listed.{Listed}
 use Rattle.scan.specs.Sieve.{kept, laneOf, onto}
 
 abbrev pub isFound : Found → Bool

@@ -1,6 +1,5 @@
 // From the remainders to the places that so many repairs can clear. A constant table is written out at the start of the function that
 // lends it: so each level's hash has its own, and none of them is alive when the sorted tables are asked.
-use crate::Listed;
 use crate::keep::keep;
 use crate::keep::tell;
 use crate::list::Shape;
@@ -10,6 +9,7 @@ use crate::tables::ONE_DISPLACEMENTS;
 use crate::tables::ONE_OWNERS;
 use crate::tables::TWO_DISPLACEMENTS;
 use crate::tables::TWO_OWNERS;
+use scan::list::Listed;
 ghost use mathlib.Core.Path.{_≡_};
 ghost use Prim.Native.Nat.{_≤_};
 ghost use lib.ListN.{length, take};

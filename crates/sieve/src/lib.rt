@@ -6,14 +6,9 @@ mod list;
 mod tables;
 
 use crate::find::find;
+use scan::list::Listed;
 ghost use mathlib.Core.Path.{_≡_};
 ghost use Rattle.sieve.specs.Repairable.{repairableInto};
-
-// A number, and how many places are listed; 0 with a refusal.
-pub struct Listed {
-    pub number: u32,
-    pub count: usize,
-}
 
 // Of the 248 places, by the remainders of both slicers: their numbers in the order of the search, and the codes of both remainders of
 // each. Refused: 2 not 248 remainders, 3 not room for 248 places and 496 codes, 4 a level above 2.

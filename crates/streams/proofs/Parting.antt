@@ -1,12 +1,12 @@
 -- Laws of a message in a part of a stream.
+--     same-packed      equal bits make equal bytes
 --     message-part     in the part that starts with the byte of its first bit the message is the same
---     message-stream   in one of several streams the message is the same
 --     part-            the answers: refused, done
 -- Assumes nothing.
 use mathlib.Core.Path.{_≡_, refl, sym, ap, _∙_}
 use mathlib.Core.List.{List}
 use mathlib.Core.Bool.{Bool, true, false, cond}
-use Prim.Native.Nat.{ℕ, zero, suc, _+_, _-_, _*_, _/_, _%_, _<_, _≤_}
+use Prim.Native.Nat.{ℕ, zero, suc, _+_, _*_, _/_, _%_, _<_, _≤_}
 use native.Mathlib.Omega.{arith}
 use borrow.Author.Tests.{eq-eqb, eqb-true, le-leb, leb-true}
 use lib.Dec.{eqb, leb}
@@ -35,7 +35,7 @@ unfolding value
 same-value f g j zero h = refl
 same-value f g j (suc n) h = rw (same-value f g j n (λ i l. h i (omega arith)), h n (omega arith))
 
-same-packed : (n : ℕ) (f g : ℕ → ℕ) → ((i : ℕ) → i < 8 * n → f i ≡ g i) → packed n f ≡ packed n g
+pub same-packed : (n : ℕ) (f g : ℕ → ℕ) → ((i : ℕ) → i < 8 * n → f i ≡ g i) → packed n f ≡ packed n g
 unfolding packed
 same-packed n f g h =
     tabulate-is 0 (λ (k : ℕ). value g (8 * k) 8) n _ (length-tabulate n _)
@@ -48,14 +48,6 @@ message-part s n m bit h =
     (λ j l. bit-part s (bit / 8) m (bit % 8 + j) (omega arith) ∙ ap (bitAt s) (place j))
   where
     place : (j : ℕ) → 8 * (bit / 8) + (bit % 8 + j) ≡ bit + j
-    place j = omega arith
-
--- a message in one of several streams of 18 bytes, counted from the first of them or from its own
-pub message-stream : (xs : List ℕ) (s bit : ℕ) → bit ≤ 32 → messageAt xs 14 (144 * s + bit) ≡ messageAt (take 18 (drop (18 * s) xs)) 14 bit
-unfolding messageAt
-message-stream xs s bit h = same-packed 14 _ _ (λ j l. ap (bitAt xs) (place j) ∙ sym (bit-part xs (18 * s) 18 (bit + j) (omega arith)))
-  where
-    place : (j : ℕ) → 144 * s + bit + j ≡ 8 * (18 * s) + (bit + j)
     place j = omega arith
 
 -- a part of `partSize` bytes is enough

@@ -3,7 +3,7 @@
 use Rattle.place.specs.Step.{sampleStart, startingAt}
 use mathlib.Core.Path.{_≡_, sym, subst}
 use native.Mathlib.Omega.{arith}
-use Prim.Native.Nat.{ℕ, _+_, _-_}
+use Prim.Native.Nat.{ℕ, _+_}
 use mathlib.Core.Bool.{true}
 use Rattle.place.specs.declared.Place.{Place}
 use Rattle.place.specs.Step.{within}

@@ -7,7 +7,8 @@ use borrow.Author.Needs.{needs}
 use denote.Ref.{now}
 use Rattle.scan.specs.Sieve.{kept}
 use Rattle.scan.specs.Inner.{marked}
-use Rattle.scan.proofs.Listing.{mark-is, kept-more, kept-length}
+use Rattle.scan.proofs.Keeping.{kept-more}
+use Rattle.scan.proofs.Listing.{mark-is, kept-length}
 use Rattle.scan.proofs.marks.gather.Statement.{statement}
 use Rattle.scan.proofs.marks.gather.Tie as tie
 

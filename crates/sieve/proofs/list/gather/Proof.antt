@@ -4,8 +4,8 @@ use mathlib.Core.Path.{_≡_, sym, _∙_}
 use Prim.Native.Nat.{_-_, _≤_}
 use native.Mathlib.Omega.{arith}
 use lib.ListN.{length-set}
+use Rattle.scan.proofs.Starting.{lane-lt}
 use Rattle.sieve.specs.Inner.{Gathered}
-use Rattle.sieve.proofs.Listing.{lane-lt}
 use Rattle.sieve.proofs.Picking.{gathered-none, gathered-more}
 use Rattle.sieve.proofs.list.gather.Statement.{statement}
 use Rattle.sieve.proofs.list.gather.Tie as tie
@@ -29,12 +29,12 @@ lane-requires c κs = search needs
 mul-ask : tie.Need-mul-ask Inv-loop μ-loop
 mul-ask c =
     let s = c .before .before .before .before .before .before .before .before .before .before in
-    omega (arith, c .lane .ensures, lane-lt _ (s .pre .5 .each (c .before .before .before .loop .m) (c .before .before .loop-test .taken)))
+    omega (arith, c .lane .ensures, lane-lt 31 _ (s .pre .5 .each (c .before .before .before .loop .m) (c .before .before .loop-test .taken)))
 
 shared-slice-read-ask : tie.Need-shared-slice-read-ask Inv-loop μ-loop
 shared-slice-read-ask c =
     let s = c .before .before .before .before .before .before .before .before .before .before .before in
-    omega (arith, s .pre .1, c .before .lane .ensures, lane-lt _ (s .pre .5 .each (c .before .before .before .before .loop .m) (c .before .before .before .loop-test .taken)))
+    omega (arith, s .pre .1, c .before .lane .ensures, lane-lt 31 _ (s .pre .5 .each (c .before .before .before .before .loop .m) (c .before .before .before .loop-test .taken)))
 
 ask-requires : tie.Need-ask-requires Inv-loop μ-loop
 ask-requires c κs = search needs
@@ -53,12 +53,12 @@ slice-write-asked c =
 mul-ask-2 : tie.Need-mul-ask-2 Inv-loop μ-loop
 mul-ask-2 c =
     let s = c .before .before .before .before .before .before .before .before .before .before .before .before in
-    omega (arith, c .before .before .lane .ensures, lane-lt _ (s .pre .5 .each (c .before .before .before .before .before .loop .m) (c .before .before .before .before .loop-test .taken)))
+    omega (arith, c .before .before .lane .ensures, lane-lt 31 _ (s .pre .5 .each (c .before .before .before .before .before .loop .m) (c .before .before .before .before .loop-test .taken)))
 
 shared-slice-read-ask-2 : tie.Need-shared-slice-read-ask-2 Inv-loop μ-loop
 shared-slice-read-ask-2 c =
     let s = c .before .before .before .before .before .before .before .before .before .before .before .before .before in
-    omega (arith, s .pre .2, c .before .before .before .lane .ensures, lane-lt _ (s .pre .5 .each (c .before .before .before .before .before .before .loop .m) (c .before .before .before .before .before .loop-test .taken)))
+    omega (arith, s .pre .2, c .before .before .before .lane .ensures, lane-lt 31 _ (s .pre .5 .each (c .before .before .before .before .before .before .loop .m) (c .before .before .before .before .before .loop-test .taken)))
 
 ask-requires-2 : tie.Need-ask-requires-2 Inv-loop μ-loop
 ask-requires-2 c κs = search needs

@@ -6,7 +6,7 @@ use lib.ListN.{length, take, length-set}
 use borrow.Author.Needs.{needs}
 use denote.Ref.{now}
 use Rattle.scan.specs.Sieve.{kept}
-use Rattle.sieve.proofs.Listing.{bit-le, kept-more}
+use Rattle.scan.proofs.Keeping.{bit-le, kept-more}
 use Rattle.sieve.specs.Inner.{letIn}
 use Rattle.sieve.proofs.Owning.{let-bit}
 use Rattle.sieve.proofs.list.list_in.Statement.{statement}

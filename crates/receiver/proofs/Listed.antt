@@ -74,6 +74,10 @@ pub found-none : (f : Place → Option Candidate) (list : List ℕ) → none ≡
 unfolding over
 found-none f list = refl
 
+-- where no place is listed
+pub nothing-listed : (f : Place → Option Candidate) (ks : List ℕ) {n : ℕ} {x : Survivor} → n ≡ 0 → x ≡ survivorOf none → x ≡ survivorOf (over f placeAt none (take n ks))
+nothing-listed f ks z e = e ∙ ap survivorOf (found-none f ks ∙ ap (λ (n : ℕ). over f placeAt none (take n ks)) (sym z))
+
 -- the remainder of a place that is given by its number
 pub listed-finds : (level : ℕ) (crcs : List ℕ) (code k : ℕ) {p : Place} → p ≡ placeAt k → Finds level (getD crcs (laneOf k) 0) (foundBy (getD crcs (laneOf k) 0) code)
     → Finds level (getD crcs (sampleStart p - 8) 0) (foundBy (getD crcs (sampleStart p - 8) 0) code)

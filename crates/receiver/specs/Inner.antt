@@ -81,11 +81,6 @@ pub record Ready (samples symbols : List Float) (coherent noncoherent crcs other
   pub scanned : Scanned samples coherent noncoherent crcs others
   pub sums : symbols ≡ symbolsOf samples
 
--- symbols that are made where something is found
-pub record Sums (samples : List Float) (x : Survivor) (symbols : List Float) : Type 0 where
-  pub size : length symbols ≡ 2304
-  pub made : x .number ≡ 0 → symbols ≡ symbolsOf samples
-
 -- the best of some places, given by their numbers, held on from h
 unfoldable pub over : (Place → Option Candidate) → (ℕ → Place) → Option Candidate → List ℕ → Option Candidate
 over f at h ks = foldl (λ held k. better held (f (at k))) h ks

@@ -8,8 +8,9 @@ use crate::subsample::power_at;
 use crate::subsample::subsample;
 use crate::window::best_of;
 use crate::window::reading_at;
-use crate::window::symbols_of;
+use crate::window::symbols_in;
 use annex10::Repairs;
+use kernels::symbols::accumulate_symbols;
 use place::Place;
 use place::Slicer;
 use search::Answer;
@@ -94,8 +95,8 @@ pub fn find_best_decode_candidate(samples: &[f32], s: Settings) -> Survivor
     if number != 0 {
         return unread(number);
     }
-    let mut symbols = [0.0f32; 2304];
-    best_of(samples, &mut symbols, s)
+    let mut sums = [0.0f32; 2304];
+    best_of(samples, &mut sums, s)
 }
 
 // When a message at one of the 248 places came. Refused: 2, 6, 7.
@@ -110,7 +111,8 @@ pub fn time_message(samples: &[f32], place: Place, message: [u8; 14], index: u64
             fraction: 0.0,
         };
     }
-    let symbols = symbols_of(samples);
+    let mut symbols = [0.0f32; 2304];
+    accumulate_symbols(samples, &mut symbols);
     let power = power_at(&symbols, place, message);
     time_in(&symbols, place, message, power, index)
 }
@@ -123,8 +125,8 @@ pub fn decode(samples: &[f32], s: Settings, index: u64) -> Answer
     if number != 0 {
         return refused(number);
     }
-    let mut symbols = [0.0f32; 2304];
-    let read = best_of(samples, &mut symbols, s);
+    let mut sums = [0.0f32; 2304];
+    let read = best_of(samples, &mut sums, s);
     if read.number != 0 {
         return refused(1);
     }
@@ -133,6 +135,7 @@ pub fn decode(samples: &[f32], s: Settings, index: u64) -> Answer
     let message = c.message;
     let repairs = c.repairs;
     let slicer = c.slicer;
+    let symbols = symbols_in(&sums);
     let timed = time_in(&symbols, place, message, c.prompt, index);
     Answer {
         number: 0,

@@ -2,7 +2,6 @@
 use crate::candidate::nothing;
 use crate::find::find;
 use crate::find::read_at;
-use kernels::symbols::accumulate_symbols;
 use kernels::symbols::symbols_of_sums;
 use place::Place;
 use repairs::rows::bit_errors_from_crc24s;
@@ -15,30 +14,29 @@ ghost use mathlib.Core.Path.{_≡_};
 ghost use mathlib.Core.Bool.{true};
 ghost use mathlib.Core.Option.{none};
 ghost use lib.ListN.{length, take};
-ghost use Rattle.kernels.specs.Symbols.{sumsOf, symbolsOf};
+ghost use Rattle.kernels.specs.Symbols.{sumsOf, symbolsIn};
 ghost use Rattle.place.specs.All.{listed, placeAt};
 ghost use Rattle.search.specs.Choice.{candidateAt, best};
 ghost use Rattle.search.specs.Kinds.{long};
 ghost use Rattle.search.specs.Seen.{windowOf};
 ghost use Rattle.search.specs.Answers.{settingsNumber, survivorOf};
 ghost use Rattle.search.proofs.Staging.{atLevel};
-ghost use Rattle.receiver.specs.Inner.{Scanned, Listing, Sums, over};
+ghost use Rattle.receiver.specs.Inner.{Scanned, Listing, over};
 
-// The symbols of a window.
-pub fn symbols_of(samples: &[f32]) -> [f32; 2304]
-    requires { ⌜ length (now samples) ≡ 2310 ⌝ }
-    ensures { λ r. ⌜ r ≡ symbolsOf (now (samples .entry)) ⌝ }
+// The symbols that the sums of a window are.
+pub fn symbols_in(sums: &[f32]) -> [f32; 2304]
+    requires { ⌜ length (now sums) ≡ 2304 ⌝ }
+    ensures { λ r. ⌜ r ≡ symbolsIn (now (sums .entry)) ⌝ }
 {
     let mut symbols = [0.0f32; 2304];
-    accumulate_symbols(samples, &mut symbols);
+    symbols_of_sums(sums, &mut symbols);
     symbols
 }
 
-// The best of the places in a list: only here the symbols are set out, and they stay for the timing of what is found.
+// The best of the places in a list. Only here the symbols are set out.
 fn best_listed(
     samples: &[f32],
     sums: &[f32],
-    symbols: &mut [f32],
     coherent: &[u8],
     noncoherent: &[u8],
     crcs: &[u32],
@@ -48,16 +46,13 @@ fn best_listed(
     count: usize,
     s: Settings,
 ) -> Survivor
-    requires { ⌜ Scanned (now samples) (now coherent) (now noncoherent) (now crcs) (now others) × Listing (s .level) (now crcs) (now others) (now list) (now codes) count × (settingsNumber s ≡ 0) × (length (now symbols) ≡ 2304) × (now sums ≡ sumsOf (now samples)) ⌝ }
-    ensures { λ r. ⌜ (r ≡ survivorOf (over (candidateAt long s (windowOf 14 (now (samples .entry)))) placeAt none (take count (now (list .entry))))) × Sums (now (samples .entry)) r (now (symbols .exit)) ⌝ }
+    requires { ⌜ Scanned (now samples) (now coherent) (now noncoherent) (now crcs) (now others) × Listing (s .level) (now crcs) (now others) (now list) (now codes) count × (settingsNumber s ≡ 0) × (now sums ≡ sumsOf (now samples)) ⌝ }
+    ensures { λ r. ⌜ r ≡ survivorOf (over (candidateAt long s (windowOf 14 (now (samples .entry)))) placeAt none (take count (now (list .entry)))) ⌝ }
 {
-    if count == 0 {
-        return nothing();
-    }
-    symbols_of_sums(sums, symbols);
+    let symbols = symbols_in(sums);
     find(
         samples,
-        symbols,
+        &symbols,
         coherent,
         noncoherent,
         crcs,
@@ -73,23 +68,24 @@ fn best_listed(
 fn exact_best(
     samples: &[f32],
     sums: &[f32],
-    symbols: &mut [f32],
     coherent: &[u8],
     noncoherent: &[u8],
     crcs: &[u32],
     others: &[u32],
     s: Settings,
 ) -> Survivor
-    requires { ⌜ Scanned (now samples) (now coherent) (now noncoherent) (now crcs) (now others) × (settingsNumber s ≡ 0) × (length (now symbols) ≡ 2304) × (now sums ≡ sumsOf (now samples)) ⌝ }
-    ensures { λ r. ⌜ (r ≡ survivorOf (best long (atLevel 0 s) (windowOf 14 (now (samples .entry))))) × Sums (now (samples .entry)) r (now (symbols .exit)) ⌝ }
+    requires { ⌜ Scanned (now samples) (now coherent) (now noncoherent) (now crcs) (now others) × (settingsNumber s ≡ 0) × (now sums ≡ sumsOf (now samples)) ⌝ }
+    ensures { λ r. ⌜ r ≡ survivorOf (best long (atLevel 0 s) (windowOf 14 (now (samples .entry)))) ⌝ }
 {
     let mut list = [0u8; 248];
     let listed = list_exact(coherent, noncoherent, crcs, others, &mut list);
+    if listed.count == 0 {
+        return nothing();
+    }
     let codes = [0x10000u32; 496];
     best_listed(
         samples,
         sums,
-        symbols,
         coherent,
         noncoherent,
         crcs,
@@ -110,23 +106,24 @@ fn exact_best(
 fn repaired_best(
     samples: &[f32],
     sums: &[f32],
-    symbols: &mut [f32],
     coherent: &[u8],
     noncoherent: &[u8],
     crcs: &[u32],
     others: &[u32],
     s: Settings,
 ) -> Survivor
-    requires { ⌜ Scanned (now samples) (now coherent) (now noncoherent) (now crcs) (now others) × (settingsNumber s ≡ 0) × (best long (atLevel 0 s) (windowOf 14 (now samples)) ≡ none) × (length (now symbols) ≡ 2304) × (now sums ≡ sumsOf (now samples)) ⌝ }
-    ensures { λ r. ⌜ (r ≡ survivorOf (best long s (windowOf 14 (now (samples .entry))))) × Sums (now (samples .entry)) r (now (symbols .exit)) ⌝ }
+    requires { ⌜ Scanned (now samples) (now coherent) (now noncoherent) (now crcs) (now others) × (settingsNumber s ≡ 0) × (best long (atLevel 0 s) (windowOf 14 (now samples)) ≡ none) × (now sums ≡ sumsOf (now samples)) ⌝ }
+    ensures { λ r. ⌜ r ≡ survivorOf (best long s (windowOf 14 (now (samples .entry)))) ⌝ }
 {
     let mut list = [0u8; 248];
     let mut codes = [0u32; 496];
     let listed = find_repairable(s.level, crcs, others, &mut list, &mut codes);
+    if listed.count == 0 {
+        return nothing();
+    }
     best_listed(
         samples,
         sums,
-        symbols,
         coherent,
         noncoherent,
         crcs,
@@ -142,72 +139,43 @@ fn repaired_best(
 fn in_stages(
     samples: &[f32],
     sums: &[f32],
-    symbols: &mut [f32],
     coherent: &[u8],
     noncoherent: &[u8],
     crcs: &[u32],
     others: &[u32],
     s: Settings,
 ) -> Survivor
-    requires { ⌜ Scanned (now samples) (now coherent) (now noncoherent) (now crcs) (now others) × (settingsNumber s ≡ 0) × (length (now symbols) ≡ 2304) × (now sums ≡ sumsOf (now samples)) ⌝ }
-    ensures { λ r. ⌜ (r ≡ survivorOf (best long s (windowOf 14 (now (samples .entry))))) × Sums (now (samples .entry)) r (now (symbols .exit)) ⌝ }
+    requires { ⌜ Scanned (now samples) (now coherent) (now noncoherent) (now crcs) (now others) × (settingsNumber s ≡ 0) × (now sums ≡ sumsOf (now samples)) ⌝ }
+    ensures { λ r. ⌜ r ≡ survivorOf (best long s (windowOf 14 (now (samples .entry)))) ⌝ }
 {
-    let exact = exact_best(
-        samples,
-        sums,
-        symbols,
-        coherent,
-        noncoherent,
-        crcs,
-        others,
-        s,
-    );
+    let exact = exact_best(samples, sums, coherent, noncoherent, crcs, others, s);
     if exact.number == 0 {
         return exact;
     }
     if s.level == 0 {
         return exact;
     }
-    repaired_best(
-        samples,
-        sums,
-        symbols,
-        coherent,
-        noncoherent,
-        crcs,
-        others,
-        s,
-    )
+    repaired_best(samples, sums, coherent, noncoherent, crcs, others, s)
 }
 
-// The best of all places. Where there is one, the symbols are those of the window.
-pub fn best_of(samples: &[f32], symbols: &mut [f32], s: Settings) -> Survivor
-    requires { ⌜ (length (now samples) ≡ 2310) × (settingsNumber s ≡ 0) × (length (now symbols) ≡ 2304) ⌝ }
-    ensures { λ r. ⌜ (r ≡ survivorOf (best long s (windowOf 14 (now (samples .entry))))) × Sums (now (samples .entry)) r (now (symbols .exit)) ⌝ }
+// The best of all places. The sums stay for the timing of what is found.
+pub fn best_of(samples: &[f32], sums: &mut [f32], s: Settings) -> Survivor
+    requires { ⌜ (length (now samples) ≡ 2310) × (settingsNumber s ≡ 0) × (length (now sums) ≡ 2304) ⌝ }
+    ensures { λ r. ⌜ (r ≡ survivorOf (best long s (windowOf 14 (now (samples .entry))))) × (now (sums .exit) ≡ sumsOf (now (samples .entry))) ⌝ }
 {
     let mut coherent = [0u8; 1152];
     let mut noncoherent = [0u8; 1152];
     let mut crcs = [0u32; 248];
     let mut others = [0u32; 248];
-    let mut sums = [0.0f32; 2304];
     scan(
         samples,
-        &mut sums,
+        sums,
         &mut coherent,
         &mut noncoherent,
         &mut crcs,
         &mut others,
     );
-    in_stages(
-        samples,
-        &sums,
-        symbols,
-        &coherent,
-        &noncoherent,
-        &crcs,
-        &others,
-        s,
-    )
+    in_stages(samples, sums, &coherent, &noncoherent, &crcs, &others, s)
 }
 
 // The surviving reading of one place.
@@ -232,8 +200,7 @@ pub fn reading_at(samples: &[f32], s: Settings, place: Place) -> Survivor
     let both = [crcs[i], others[i]];
     let mut codes = [0u32; 2];
     bit_errors_from_crc24s(s.level, &both, &mut codes);
-    let mut symbols = [0.0f32; 2304];
-    symbols_of_sums(&sums, &mut symbols);
+    let symbols = symbols_in(&sums);
     read_at(
         samples,
         &symbols,

@@ -17,9 +17,6 @@ slice-aggregate-scan-3 c = search needs
 slice-aggregate-scan-4 : tie.Need-slice-aggregate-scan-4
 slice-aggregate-scan-4 c = search needs
 
-slice-aggregate-scan-5 : tie.Need-slice-aggregate-scan-5
-slice-aggregate-scan-5 c = search needs
-
 scan-requires : tie.Need-scan-requires
 scan-requires c κs = search needs
 
@@ -35,20 +32,20 @@ slice-aggregate-in-stages-3 c = search needs
 slice-aggregate-in-stages-4 : tie.Need-slice-aggregate-in-stages-4
 slice-aggregate-in-stages-4 c = search needs
 
-slice-aggregate-in-stages-5 : tie.Need-slice-aggregate-in-stages-5
-slice-aggregate-in-stages-5 c = search needs
-
 in-stages-requires : tie.Need-in-stages-requires
 in-stages-requires c κs =
     let s = c .before .before .before .before .before .before .before .before .before .before .before .before .before .before .before .before .before .before .before in
-    let w = scan-done _ _ _ _ _ _ (s .pre .0) refl refl refl refl refl (c .before .before .before .before .before .before .before .before .before .before .before .scan .ensures) in
-    (w .0, s .pre .1, s .pre .2, w .1)
+    let w = scan-done _ _ _ _ _ _ (s .pre .0) (s .pre .2) refl refl refl refl (c .before .before .before .before .before .before .before .before .before .before .before .scan .ensures) in
+    (w .0, s .pre .1, w .1)
 
 same-length : tie.Need-same-length
 same-length c = search needs
 
 returns : tie.Need-returns
-returns c = search needs
+returns c =
+    let s = c .before .before .before .before .before .before .before .before .before .before .before .before .before .before .before .before .before .before .before .before in
+    let w = scan-done _ _ _ _ _ _ (s .pre .0) (s .pre .2) refl refl refl refl (c .before .before .before .before .before .before .before .before .before .before .before .before .scan .ensures) in
+    (c .in-stages .ensures, w .1)
 
 pub best-of-spec : {M : Type 1} → statement M
 best-of-spec =
@@ -58,13 +55,11 @@ best-of-spec =
     slice-aggregate-scan-2
     slice-aggregate-scan-3
     slice-aggregate-scan-4
-    slice-aggregate-scan-5
     scan-requires
     slice-aggregate-in-stages
     slice-aggregate-in-stages-2
     slice-aggregate-in-stages-3
     slice-aggregate-in-stages-4
-    slice-aggregate-in-stages-5
     in-stages-requires
     same-length
     returns)

@@ -12,46 +12,25 @@ use Rattle.receiver.proofs.window.in_stages.Tie as tie
 exact-best-requires : tie.Need-exact-best-requires
 exact-best-requires c κs = search needs
 
-same-length : tie.Need-same-length
-same-length c = search needs
-
 returns : tie.Need-returns
 returns c =
-    let a = c .before .before .before .before .before .before .before .before .before .before .before .before .before .args in
-    let e = c .before .before .before .before .exact-best .ensures in
-    (first-stage (a .s) (windowOf 14 (a .samples .now)) (e .0) (c .if1 .taken), e .1)
-
-same-length-2 : tie.Need-same-length-2
-same-length-2 c = search needs
+    let a = c .before .before .before .before .before .before .before .before .before .args in
+    first-stage (a .s) (windowOf 14 (a .samples .now)) (c .before .before .exact-best .ensures) (c .if1 .taken)
 
 returns-2 : tie.Need-returns-2
 returns-2 c =
-    let a = c .before .before .before .before .before .before .before .before .before .before .before .before .before .before .before .args in
-    let e = c .before .before .before .before .before .before .exact-best .ensures in
-    (only-stage (a .s) (windowOf 14 (a .samples .now)) (c .if2 .taken) (e .0), e .1)
+    let a = c .before .before .before .before .before .before .before .before .before .before .before .args in
+    only-stage (a .s) (windowOf 14 (a .samples .now)) (c .if2 .taken) (c .before .before .before .before .exact-best .ensures)
 
 repaired-best-requires : tie.Need-repaired-best-requires
 repaired-best-requires c κs =
-    let s = c .before .before .before .before .before .before .before .before .before .before .before .before .before .before .before .before in
+    let s = c .before .before .before .before .before .before .before .before .before .before .before in
     let a = s .args in
-    let e = c .before .before .before .before .before .before .before .exact-best .ensures in
-    (s .pre .0, s .pre .1, read-none (best long (atLevel 0 (a .s)) (windowOf 14 (a .samples .now))) (e .0) (c .before .before .before .if1 .left), e .1 .size, s .pre .3)
-
-same-length-3 : tie.Need-same-length-3
-same-length-3 c = search needs
+    (s .pre .0, s .pre .1, read-none (best long (atLevel 0 (a .s)) (windowOf 14 (a .samples .now))) (c .before .before .before .before .exact-best .ensures) (c .before .before .if1 .left), s .pre .2)
 
 returns-3 : tie.Need-returns-3
 returns-3 c = search needs
 
 pub in-stages-spec : {M : Type 1} → statement M
 in-stages-spec =
-    tie.close
-    (tie.spec
-    exact-best-requires
-    same-length
-    returns
-    same-length-2
-    returns-2
-    repaired-best-requires
-    same-length-3
-    returns-3)
+    tie.close (tie.spec exact-best-requires returns returns-2 repaired-best-requires returns-3)

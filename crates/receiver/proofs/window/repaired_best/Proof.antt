@@ -4,6 +4,7 @@ use lib.ListN.{replicate}
 use Rattle.receiver.proofs.Weighing.{level-low}
 use Rattle.receiver.proofs.Finding.{scanned-sizes}
 use Rattle.receiver.proofs.Repaired.{repaired-taken, repaired-best}
+use Rattle.receiver.proofs.Listed.{nothing-listed}
 use borrow.Author.Needs.{needs}
 use Rattle.receiver.proofs.window.repaired_best.Statement.{statement}
 use Rattle.receiver.proofs.window.repaired_best.Tie as tie
@@ -17,6 +18,18 @@ slice-aggregate-find-repairable-2 c = search needs
 find-repairable-requires : tie.Need-find-repairable-requires
 find-repairable-requires c κs = search needs
 
+nothing-requires : tie.Need-nothing-requires
+nothing-requires c κs = search needs
+
+returns : tie.Need-returns
+returns c =
+    let s = c .before .before .before .before .before .before .before .before .before .before .before .before .before .before in
+    let a = s .args in
+    let z = scanned-sizes (a .samples .now) (a .coherent .now) (a .noncoherent .now) (a .crcs .now) (a .others .now) (s .pre .0) in
+    let low = level-low (a .s) (s .pre .1) in
+    let t = repaired-taken (a .s .level) (a .crcs .now) (a .others .now) (replicate 248 0) (replicate 496 0) (z .first-crcs) (z .second-crcs) refl refl low (c .before .before .before .before .before .find-repairable .ensures) in
+    repaired-best (a .samples .now) (a .coherent .now) (a .noncoherent .now) (a .crcs .now) (a .others .now) (s .pre .0) (a .s) low (s .pre .2) (t .front) (nothing-listed _ _ (c .before .if1 .taken) (c .nothing .ensures))
+
 slice-aggregate-best-listed : tie.Need-slice-aggregate-best-listed
 slice-aggregate-best-listed c = search needs
 
@@ -29,21 +42,17 @@ best-listed-requires c κs =
     let a = s .args in
     let z = scanned-sizes (a .samples .now) (a .coherent .now) (a .noncoherent .now) (a .crcs .now) (a .others .now) (s .pre .0) in
     let low = level-low (a .s) (s .pre .1) in
-    let t = repaired-taken (a .s .level) (a .crcs .now) (a .others .now) (replicate 248 0) (replicate 496 0) (z .first-crcs) (z .second-crcs) refl refl low (c .before .before .before .before .before .find-repairable .ensures) in
-    (s .pre .0, t .listing, s .pre .1, s .pre .3, s .pre .4)
+    let t = repaired-taken (a .s .level) (a .crcs .now) (a .others .now) (replicate 248 0) (replicate 496 0) (z .first-crcs) (z .second-crcs) refl refl low (c .before .before .before .before .before .before .find-repairable .ensures) in
+    (s .pre .0, t .listing, s .pre .1, s .pre .3)
 
-same-length : tie.Need-same-length
-same-length c = search needs
-
-returns : tie.Need-returns
-returns c =
-    let s = c .before .before .before .before .before .before .before .before .before .before .before .before .before .before .before .before .before .before in
+returns-2 : tie.Need-returns-2
+returns-2 c =
+    let s = c .before .before .before .before .before .before .before .before .before .before .before .before .before .before .before .before in
     let a = s .args in
     let z = scanned-sizes (a .samples .now) (a .coherent .now) (a .noncoherent .now) (a .crcs .now) (a .others .now) (s .pre .0) in
     let low = level-low (a .s) (s .pre .1) in
-    let t = repaired-taken (a .s .level) (a .crcs .now) (a .others .now) (replicate 248 0) (replicate 496 0) (z .first-crcs) (z .second-crcs) refl refl low (c .before .before .before .before .before .before .before .before .find-repairable .ensures) in
-    let e = c .before .before .best-listed .ensures in
-    (repaired-best (a .samples .now) (a .coherent .now) (a .noncoherent .now) (a .crcs .now) (a .others .now) (s .pre .0) (a .s) low (s .pre .2) (t .front) (e .0), e .1)
+    let t = repaired-taken (a .s .level) (a .crcs .now) (a .others .now) (replicate 248 0) (replicate 496 0) (z .first-crcs) (z .second-crcs) refl refl low (c .before .before .before .before .before .before .before .find-repairable .ensures) in
+    repaired-best (a .samples .now) (a .coherent .now) (a .noncoherent .now) (a .crcs .now) (a .others .now) (s .pre .0) (a .s) low (s .pre .2) (t .front) (c .best-listed .ensures)
 
 pub repaired-best-spec : {M : Type 1} → statement M
 repaired-best-spec =
@@ -52,8 +61,9 @@ repaired-best-spec =
     slice-aggregate-find-repairable
     slice-aggregate-find-repairable-2
     find-repairable-requires
+    nothing-requires
+    returns
     slice-aggregate-best-listed
     slice-aggregate-best-listed-2
     best-listed-requires
-    same-length
-    returns)
+    returns-2)

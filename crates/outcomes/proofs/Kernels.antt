@@ -6,11 +6,19 @@ use Rattle.outcomes.specs.Outcome.{Fixed, answer}
 use Rattle.outcomes.proofs.Law.{fixes, answer-set}
 use Rattle.kernels.proofs.Told.{powerUntold, power-back}
 use Rattle.kernels.specs.Powers.{powerTold}
+use Rattle.kernels.proofs.around.powers_around as around-powers-around
 use Rattle.kernels.proofs.both.postdecode_powers as both-postdecode-powers
 use Rattle.kernels.proofs.power.postdecode_power as power-postdecode-power
 use Rattle.kernels.proofs.power.postdecode_noise_power as power-postdecode-noise-power
 use Rattle.kernels.proofs.slicers.demodulate as slicers-demodulate
+use Rattle.kernels.proofs.symbols.running_sums as symbols-running-sums
+use Rattle.kernels.proofs.symbols.symbols_of_sums as symbols-symbols-of-sums
 use Rattle.kernels.proofs.symbols.accumulate_symbols as symbols-accumulate-symbols
+
+pub around-powers-around-fixed : Fixed around-powers-around.ended (answer _) (λ M 𝓤 H. around-powers-around.clauses 𝓤 H) (λ M 𝓤 H. around-powers-around.spec 𝓤 H)
+around-powers-around-fixed =
+    fixes around-powers-around.ended _ (answer-set around-powers-around.ended) refl (λ κs. refl)
+    (λ κs a r e. r) (λ κs a y. (y, (tt, (tt, (tt, (tt, (tt, tt))))))) (λ κs a r ws. refl)
 
 pub both-postdecode-powers-fixed : Fixed both-postdecode-powers.ended (answer _) (λ M 𝓤 H. both-postdecode-powers.clauses 𝓤 H) (λ M 𝓤 H. both-postdecode-powers.spec 𝓤 H)
 both-postdecode-powers-fixed =
@@ -31,6 +39,16 @@ pub slicers-demodulate-fixed : Fixed slicers-demodulate.ended (answer _) (λ M �
 slicers-demodulate-fixed =
     fixes slicers-demodulate.ended _ (answer-set slicers-demodulate.ended) refl (λ κs. refl)
     (λ κs a r e. (r, now (e .1 .0), now (e .1 .1 .0))) (λ κs a y. (y .0, (tt, (y .1, (y .2, tt))))) (λ κs a r ws. refl)
+
+pub symbols-running-sums-fixed : Fixed symbols-running-sums.ended (answer _) (λ M 𝓤 H. symbols-running-sums.clauses 𝓤 H) (λ M 𝓤 H. symbols-running-sums.spec 𝓤 H)
+symbols-running-sums-fixed =
+    fixes symbols-running-sums.ended _ (answer-set symbols-running-sums.ended) refl (λ κs. refl)
+    (λ κs a r e. (r, now (e .1 .0))) (λ κs a y. (y .0, (tt, (y .1, tt)))) (λ κs a r ws. refl)
+
+pub symbols-symbols-of-sums-fixed : Fixed symbols-symbols-of-sums.ended (answer _) (λ M 𝓤 H. symbols-symbols-of-sums.clauses 𝓤 H) (λ M 𝓤 H. symbols-symbols-of-sums.spec 𝓤 H)
+symbols-symbols-of-sums-fixed =
+    fixes symbols-symbols-of-sums.ended _ (answer-set symbols-symbols-of-sums.ended) refl (λ κs. refl)
+    (λ κs a r e. (r, now (e .1 .0))) (λ κs a y. (y .0, (tt, (y .1, tt)))) (λ κs a r ws. refl)
 
 pub symbols-accumulate-symbols-fixed : Fixed symbols-accumulate-symbols.ended (answer _) (λ M 𝓤 H. symbols-accumulate-symbols.clauses 𝓤 H) (λ M 𝓤 H. symbols-accumulate-symbols.spec 𝓤 H)
 symbols-accumulate-symbols-fixed =

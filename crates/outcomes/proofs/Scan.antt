@@ -21,4 +21,4 @@ stream-find-stream-fixed =
 pub window-scan-fixed : Fixed window-scan.ended (answer _) (λ M 𝓤 H. window-scan.clauses 𝓤 H) (λ M 𝓤 H. window-scan.spec 𝓤 H)
 window-scan-fixed =
     fixes window-scan.ended _ (answer-set window-scan.ended) refl (λ κs. refl)
-    (λ κs a r e. (r, now (e .1 .0), now (e .1 .1 .0), now (e .1 .1 .1 .0), now (e .1 .1 .1 .1 .0))) (λ κs a y. (y .0, (tt, (y .1, (y .2, (y .3, (y .4, tt))))))) (λ κs a r ws. refl)
+    (λ κs a r e. (r, now (e .1 .0), now (e .1 .1 .0), now (e .1 .1 .1 .0), now (e .1 .1 .1 .1 .0), now (e .1 .1 .1 .1 .1 .0))) (λ κs a y. (y .0, (tt, (y .1, (y .2, (y .3, (y .4, (y .5, tt)))))))) (λ κs a r ws. refl)

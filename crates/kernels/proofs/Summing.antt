@@ -9,7 +9,7 @@
 --     complex-part          complex numbers of a part of a row
 --     row-symbol            a row by itself holds the symbols of its phase
 --     summed-done, set-done, accumulated-done      the answers where nothing is refused
---     sums-made, symbols-made      what is made then
+--     sums-made, symbols-out, symbols-made      what is made then
 -- Assumes nothing.
 use mathlib.Core.Path.{_≡_, sym, ap, _∙_}
 use mathlib.Core.List.{List}
@@ -214,6 +214,12 @@ sums-made samples sums a b e = ap (λ (p : ℕ × List Float). p .1) (e ∙ summ
 pub set-done : (sums symbols : List Float) → length sums ≡ 2304 → length symbols ≡ 2304 → setOut sums symbols ≡ (0, symbolsIn sums)
 unfolding setOut
 set-done sums symbols a b = simp (eq-eqb _ _ a, eq-eqb _ _ b)
+
+-- from the sums of a window its symbols
+pub symbols-out : (samples sums symbols : List Float) {r : ℕ} {now : List Float} → sums ≡ sumsOf samples → length symbols ≡ 2304 → (r, now) ≡ setOut sums symbols
+    → now ≡ symbolsOf samples
+symbols-out samples sums symbols a b e =
+    ap (λ (p : ℕ × List Float). p .1) (e ∙ set-done sums symbols (ap length a ∙ sums-length samples) b) ∙ ap symbolsIn a ∙ symbols-in samples
 
 pub accumulated-done : (samples symbols : List Float) → length samples ≡ 2310 → length symbols ≡ 2304
     → accumulated samples symbols ≡ (0, symbolsOf samples)

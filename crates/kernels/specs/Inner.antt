@@ -9,7 +9,7 @@ use Rattle.lists.specs.From.{tabulate}
 use Rattle.floats.specs.Numbers.{zeroF}
 use Rattle.math.specs.Complex.{normOf}
 use Rattle.place.specs.declared.Slicer.{Slicer}
-use Rattle.kernels.specs.Symbols.{complexAt, sumFrom, partOf}
+use Rattle.kernels.specs.Symbols.{complexAt}
 use Rattle.kernels.specs.Slices.{slicedBit}
 
 -- number i of a row and the next three of its part, one after the other

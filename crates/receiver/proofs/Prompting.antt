@@ -28,7 +28,6 @@ use Rattle.timing.specs.Subsample.{fractionOf, timingOf}
 use Rattle.timing.specs.declared.Offset.{Offset}
 use Rattle.timing.specs.declared.Offset.the-variants.{Same, Earlier, Later}
 use Rattle.search.specs.declared.Prompt.{Prompt}
-use Rattle.search.specs.Window.{Window}
 use Rattle.search.specs.When.{lookAt, over, promptOf, about, timingAt}
 use Rattle.search.specs.Seen.{windowOf, promptAt, row}
 use Rattle.kernels.specs.declared.around.Around.{Around}

@@ -35,7 +35,6 @@ use Rattle.timing.specs.Subsample.{fractionOf, timingOf}
 use Rattle.search.specs.declared.Tried.{Tried}
 use Rattle.search.specs.declared.Tried.the-variants.{Pass, Fail}
 use Rattle.search.specs.declared.Candidate.{Candidate}
-use Rattle.search.specs.declared.Survivor.{Survivor}
 use Rattle.search.specs.declared.Arrival.{Arrival}
 use Rattle.search.specs.Window.{Window}
 use Rattle.search.specs.Choice.{better}

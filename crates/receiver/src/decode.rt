@@ -8,9 +8,9 @@ use crate::subsample::power_at;
 use crate::subsample::subsample;
 use crate::window::best_of;
 use crate::window::reading_at;
-use crate::window::symbols_in;
 use annex10::Repairs;
 use kernels::symbols::accumulate_symbols;
+use kernels::symbols::symbols_of_sums;
 use place::Place;
 use place::Slicer;
 use search::Answer;
@@ -135,7 +135,8 @@ pub fn decode(samples: &[f32], s: Settings, index: u64) -> Answer
     let message = c.message;
     let repairs = c.repairs;
     let slicer = c.slicer;
-    let symbols = symbols_in(&sums);
+    let mut symbols = [0.0f32; 2304];
+    symbols_of_sums(&sums, &mut symbols);
     let timed = time_in(&symbols, place, message, c.prompt, index);
     Answer {
         number: 0,

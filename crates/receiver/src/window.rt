@@ -14,7 +14,7 @@ ghost use mathlib.Core.Path.{_≡_};
 ghost use mathlib.Core.Bool.{true};
 ghost use mathlib.Core.Option.{none};
 ghost use lib.ListN.{length, take};
-ghost use Rattle.kernels.specs.Symbols.{sumsOf, symbolsIn};
+ghost use Rattle.kernels.specs.Symbols.{sumsOf};
 ghost use Rattle.place.specs.All.{listed, placeAt};
 ghost use Rattle.search.specs.Choice.{candidateAt, best};
 ghost use Rattle.search.specs.Kinds.{long};
@@ -22,16 +22,6 @@ ghost use Rattle.search.specs.Seen.{windowOf};
 ghost use Rattle.search.specs.Answers.{settingsNumber, survivorOf};
 ghost use Rattle.search.proofs.Staging.{atLevel};
 ghost use Rattle.receiver.specs.Inner.{Scanned, Listing, over};
-
-// The symbols that the sums of a window are.
-pub fn symbols_in(sums: &[f32]) -> [f32; 2304]
-    requires { ⌜ length (now sums) ≡ 2304 ⌝ }
-    ensures { λ r. ⌜ r ≡ symbolsIn (now (sums .entry)) ⌝ }
-{
-    let mut symbols = [0.0f32; 2304];
-    symbols_of_sums(sums, &mut symbols);
-    symbols
-}
 
 // The best of the places in a list. Only here the symbols are set out.
 fn best_listed(
@@ -49,7 +39,8 @@ fn best_listed(
     requires { ⌜ Scanned (now samples) (now coherent) (now noncoherent) (now crcs) (now others) × Listing (s .level) (now crcs) (now others) (now list) (now codes) count × (settingsNumber s ≡ 0) × (now sums ≡ sumsOf (now samples)) ⌝ }
     ensures { λ r. ⌜ r ≡ survivorOf (over (candidateAt long s (windowOf 14 (now (samples .entry)))) placeAt none (take count (now (list .entry)))) ⌝ }
 {
-    let symbols = symbols_in(sums);
+    let mut symbols = [0.0f32; 2304];
+    symbols_of_sums(sums, &mut symbols);
     find(
         samples,
         &symbols,
@@ -200,7 +191,8 @@ pub fn reading_at(samples: &[f32], s: Settings, place: Place) -> Survivor
     let both = [crcs[i], others[i]];
     let mut codes = [0u32; 2];
     bit_errors_from_crc24s(s.level, &both, &mut codes);
-    let symbols = symbols_in(&sums);
+    let mut symbols = [0.0f32; 2304];
+    symbols_of_sums(&sums, &mut symbols);
     read_at(
         samples,
         &symbols,

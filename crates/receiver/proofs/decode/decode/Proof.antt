@@ -5,8 +5,7 @@ use mathlib.Core.Path.{refl, sym, ap, _∙_}
 use Rattle.receiver.specs.Inner.{powerIn, arrivalIn}
 use Rattle.receiver.proofs.Deciding.{decode-taken, read-some, read-none, best-listed, best-power, decode-refused, decode-none, decode-done}
 use lib.ListN.{length}
-use Rattle.kernels.specs.Symbols.{symbolsIn}
-use Rattle.kernels.proofs.Summing.{sums-length, symbols-length, symbols-in}
+use Rattle.kernels.proofs.Summing.{symbols-length, symbols-out}
 use borrow.Author.Needs.{needs}
 use Rattle.receiver.proofs.decode.decode.Statement.{statement}
 use Rattle.receiver.proofs.decode.decode.Tie as tie
@@ -39,24 +38,26 @@ returns-2 c =
     let a = c .before .before .before .before .before .before .before .before .before .args in
     decode-none (a .samples .now) (a .s) (a .index) (c .before .before .before .before .before .before .before .decode-number .ensures) (c .before .before .before .before .before .before .if1 .left) (read-none _ (c .before .before .before .before .best-of .ensures .0) (c .before .if2 .taken)) (c .refused2 .ensures)
 
-slice-aggregate-symbols-in : tie.Need-slice-aggregate-symbols-in
-slice-aggregate-symbols-in c = search needs
+slice-aggregate-symbols-of-sums : tie.Need-slice-aggregate-symbols-of-sums
+slice-aggregate-symbols-of-sums c = search needs
 
-symbols-in-requires : tie.Need-symbols-in-requires
-symbols-in-requires c κs = search needs
+slice-aggregate-symbols-of-sums-2 : tie.Need-slice-aggregate-symbols-of-sums-2
+slice-aggregate-symbols-of-sums-2 c = search needs
+
+symbols-of-sums-requires : tie.Need-symbols-of-sums-requires
+symbols-of-sums-requires c κs = search needs
 
 slice-aggregate-time-in : tie.Need-slice-aggregate-time-in
 slice-aggregate-time-in c = search needs
 
 time-in-requires : tie.Need-time-in-requires
 time-in-requires c κs =
-    let a = c .before .before .before .before .before .before .before .before .before .before .before .before .before .before .args in
-    let t = decode-taken (a .samples .now) (c .before .before .before .before .before .before .before .before .before .before .before .if1 .left) (a .s) (a .index) (c .before .before .before .before .before .before .before .before .before .before .before .before .decode-number .ensures) in
-    let b = c .before .before .before .before .before .before .before .before .before .best-of in
+    let a = c .before .before .before .before .before .before .before .before .before .before .before .before .before .before .before .before .args in
+    let t = decode-taken (a .samples .now) (c .before .before .before .before .before .before .before .before .before .before .before .before .before .if1 .left) (a .s) (a .index) (c .before .before .before .before .before .before .before .before .before .before .before .before .before .before .decode-number .ensures) in
+    let b = c .before .before .before .before .before .before .before .before .before .before .before .best-of in
     let f = b .result .candidate in
-    let w = read-some _ (b .ensures .0) (c .before .before .before .before .before .before .if2 .left) in
-    let m = c .before .symbols-in .ensures ∙ ap symbolsIn (b .ensures .1) ∙ symbols-in (a .samples .now) in
-    (
+    let w = read-some _ (b .ensures .0) (c .before .before .before .before .before .before .before .before .if2 .left) in
+    let m = symbols-out (a .samples .now) _ _ (b .ensures .1) refl (c .before .before .symbols-of-sums .ensures) in (
       ap length m ∙ symbols-length (a .samples .now),
       best-listed _ _ w,
       t .1,
@@ -66,11 +67,11 @@ time-in-requires c κs =
 
 returns-3 : tie.Need-returns-3
 returns-3 c =
-    let a = c .before .before .before .before .before .before .before .before .before .before .before .before .before .before .before .args in
-    let b = c .before .before .before .before .before .before .before .before .before .before .best-of in
+    let a = c .before .before .before .before .before .before .before .before .before .before .before .before .before .before .before .before .before .args in
+    let b = c .before .before .before .before .before .before .before .before .before .before .before .before .best-of in
     let f = b .result .candidate in
-    let m = c .before .before .symbols-in .ensures ∙ ap symbolsIn (b .ensures .1) ∙ symbols-in (a .samples .now) in
-    decode-done (a .samples .now) (a .s) (a .index) f (c .before .before .before .before .before .before .before .before .before .before .before .before .before .decode-number .ensures) (c .before .before .before .before .before .before .before .before .before .before .before .before .if1 .left) (read-some _ (b .ensures .0) (c .before .before .before .before .before .before .before .if2 .left))
+    let m = symbols-out (a .samples .now) _ _ (b .ensures .1) refl (c .before .before .before .symbols-of-sums .ensures) in
+    decode-done (a .samples .now) (a .s) (a .index) f (c .before .before .before .before .before .before .before .before .before .before .before .before .before .before .before .decode-number .ensures) (c .before .before .before .before .before .before .before .before .before .before .before .before .before .before .if1 .left) (read-some _ (b .ensures .0) (c .before .before .before .before .before .before .before .before .before .if2 .left))
     (c .time-in .ensures ∙ ap (λ (x : List Float). arrivalIn x (f .place) (f .message) (a .index)) m)
 
 pub decode-spec : {M : Type 1} → statement M
@@ -84,8 +85,9 @@ decode-spec =
     best-of-requires
     refused-requires-2
     returns-2
-    slice-aggregate-symbols-in
-    symbols-in-requires
+    slice-aggregate-symbols-of-sums
+    slice-aggregate-symbols-of-sums-2
+    symbols-of-sums-requires
     slice-aggregate-time-in
     time-in-requires
     returns-3)

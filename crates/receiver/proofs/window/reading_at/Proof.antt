@@ -1,5 +1,5 @@
 -- `receiver::window::reading_at` meets its contract: the window is scanned, and what clears the two messages is asked of the tables. Assumes nothing.
-use mathlib.Core.Path.{_≡_, refl, ap, _∙_}
+use mathlib.Core.Path.{_≡_, refl}
 use Prim.Native.Nat.{_+_, _-_, _*_}
 use native.Mathlib.Omega.{arith}
 use lib.ListN.{replicate}
@@ -8,8 +8,7 @@ use Rattle.place.proofs.Within.{listed-gives}
 use Rattle.receiver.proofs.Weighing.{level-low}
 use Rattle.receiver.proofs.Finding.{scan-done}
 use Rattle.receiver.proofs.Repaired.{two-codes, both-asked}
-use Rattle.kernels.specs.Symbols.{symbolsIn}
-use Rattle.kernels.proofs.Summing.{symbols-in}
+use Rattle.kernels.proofs.Summing.{symbols-out}
 use borrow.Author.Needs.{needs}
 use Rattle.receiver.proofs.window.reading_at.Statement.{statement}
 use Rattle.receiver.proofs.window.reading_at.Tie as tie
@@ -95,11 +94,14 @@ slice-aggregate-bit-errors-from-crc24s-2 c = search needs
 bit-errors-from-crc24s-requires : tie.Need-bit-errors-from-crc24s-requires
 bit-errors-from-crc24s-requires c κs = search needs
 
-slice-aggregate-symbols-in : tie.Need-slice-aggregate-symbols-in
-slice-aggregate-symbols-in c = search needs
+slice-aggregate-symbols-of-sums : tie.Need-slice-aggregate-symbols-of-sums
+slice-aggregate-symbols-of-sums c = search needs
 
-symbols-in-requires : tie.Need-symbols-in-requires
-symbols-in-requires c κs = search needs
+slice-aggregate-symbols-of-sums-2 : tie.Need-slice-aggregate-symbols-of-sums-2
+slice-aggregate-symbols-of-sums-2 c = search needs
+
+symbols-of-sums-requires : tie.Need-symbols-of-sums-requires
+symbols-of-sums-requires c κs = search needs
 
 slice-aggregate-read-at : tie.Need-slice-aggregate-read-at
 slice-aggregate-read-at c = search needs
@@ -124,15 +126,15 @@ array-read-read-at-4 c = search needs
 
 read-at-requires : tie.Need-read-at-requires
 read-at-requires c κs =
-    let s = c .before .before .before .before .before .before .before .before .before .before .before .before .before .before .before .before .before .before .before .before .before .before .before .before .before .before in
+    let s = c .before .before .before .before .before .before .before .before .before .before .before .before .before .before .before .before .before .before .before .before .before .before .before .before .before .before .before .before in
     let p = s .args .place in
     let level = s .args .s .level in
     let i = 8 * p .bit + 4 * p .symbol + p .phase - 8 in
     let z : i ≡ sampleStart p - 8 = omega arith in
-    let w = scan-done _ _ _ _ _ _ (s .pre .0) refl refl refl refl refl (c .before .before .before .before .before .before .before .before .before .before .before .before .before .before .before .before .before .before .before .scan .ensures) in
-    let e = two-codes level _ _ (replicate 2 0) refl (level-low (s .args .s) (s .pre .2)) (c .before .before .before .before .before .before .before .before .bit-errors-from-crc24s .ensures) in
+    let w = scan-done _ _ _ _ _ _ (s .pre .0) refl refl refl refl refl (c .before .before .before .before .before .before .before .before .before .before .before .before .before .before .before .before .before .before .before .before .before .scan .ensures) in
+    let e = two-codes level _ _ (replicate 2 0) refl (level-low (s .args .s) (s .pre .2)) (c .before .before .before .before .before .before .before .before .before .before .bit-errors-from-crc24s .ensures) in
     let k = both-asked (w .0) level i (sampleStart p - 8) z e in (
-      record { scanned = w .0; sums = c .before .before .before .before .before .symbols-in .ensures ∙ ap symbolsIn (w .1) ∙ symbols-in (s .args .samples .now) },
+      record { scanned = w .0; sums = symbols-out (s .args .samples .now) _ _ (w .1) refl (c .before .before .before .before .before .before .symbols-of-sums .ensures) },
       s .pre .1,
       s .pre .2,
       k .first,
@@ -164,8 +166,9 @@ reading-at-spec =
     slice-aggregate-bit-errors-from-crc24s
     slice-aggregate-bit-errors-from-crc24s-2
     bit-errors-from-crc24s-requires
-    slice-aggregate-symbols-in
-    symbols-in-requires
+    slice-aggregate-symbols-of-sums
+    slice-aggregate-symbols-of-sums-2
+    symbols-of-sums-requires
     slice-aggregate-read-at
     slice-aggregate-read-at-2
     slice-aggregate-read-at-3

@@ -2,7 +2,7 @@
  *
  * Every function is proved to answer its definition, whatever it is given (docs/CONTRACTS.md names each). It keeps no state, takes
  * nothing from the heap and calls nothing but memcpy, memmove and memset, so that any number of threads may call it. A decode takes
- * some 58 KiB of stack: 59,240 bytes at most as it was measured for x86-64 (tools/stack).
+ * some 54 KiB of stack: 54,452 bytes at most as it was measured for x86-64 (tools/stack).
  *
  * A slice is a pointer and a length, in elements. The library checks every length itself and refuses a wrong one. What it cannot
  * check is left to the caller: that a pointer is good for its length (with length 0 it may be null), that it is aligned for the type

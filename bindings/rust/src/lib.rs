@@ -3,7 +3,7 @@
 //! The library checks every length and every setting itself, so the calls here check nothing: they hand slices over, and turn a
 //! number into a [`Refusal`]. A refused call leaves lent memory as it was. Where several refusals apply, the lowest number from 2
 //! up is told. No call keeps state, takes memory from the heap, or panics (but for an archive of another interface, see
-//! [`version`]); a decode takes some 58 KiB of stack. [`raw`] has the library's functions as they are.
+//! [`version`]); a decode takes some 54 KiB of stack. [`raw`] has the library's functions as they are.
 //!
 //! The proof is of the library in the default float environment, which `khlongrae.h` describes. What is written in Rust here is not
 //! proved: the names and texts of an answer's fields, [`Answer::received`], and the reader of files.

@@ -1,4 +1,4 @@
-// The types of a repair. What they mean stands in specs/; no code.
+// The types of a repair and of an address. What they mean stands in specs/; no code.
 
 // At most two positions of a message, whose bits are turned over.
 pub enum Repairs {
@@ -11,4 +11,12 @@ pub enum Repairs {
 pub enum Found {
     At(Repairs),
     Nothing,
+}
+
+// What the three bytes behind a first byte are.
+pub enum AddressKind {
+    Icao,
+    Other,
+    Flagged,
+    NoAddress,
 }

@@ -8,6 +8,8 @@ use native.Mathlib.Omega.{arith}
 use lib.Dec.{ltb}
 use lib.ListN.{length, length-append}
 use lib.Ieee.{Float}
+use Rattle.annex10.specs.declared.AddressKind.{AddressKind}
+use Rattle.annex10.specs.declared.AddressKind.the-variants.{Icao, Other, Flagged, NoAddress}
 use Rattle.annex10.specs.declared.Repairs.{Repairs}
 use Rattle.annex10.specs.declared.Repairs.the-variants.{None, One, Two}
 use Rattle.place.specs.declared.Slicer.{Slicer}
@@ -15,7 +17,7 @@ use Rattle.place.specs.declared.Slicer.the-variants.{Coherent, Noncoherent}
 use Rattle.mode_s.specs.Avr.{hexText}
 use Rattle.mode_s.proofs.Text.{length-avr}
 use Rattle.search.specs.declared.Answer.{Answer}
-use Rattle.listing.specs.Fields.{decimalIn, decimal, hexWord, floatText, addressText, repairsText, slicerText}
+use Rattle.listing.specs.Fields.{decimalIn, decimal, hexWord, floatText, addressDigits, marked, addressText, repairsText, slicerText}
 use Rattle.listing.specs.Lines.{line, headLine, refusedLine, noneLine, foundLine}
 
 decimal-in : (places n : ℕ) → length (decimalIn places n) ≤ places
@@ -36,9 +38,16 @@ float-long : (x : Float) → length (floatText x) ≡ 8
 unfolding floatText hexWord hexText
 float-long x = refl
 
-address-long : (message : List ℕ) → length (addressText message) ≡ 6
-unfolding addressText hexText
-address-long message = refl
+marked-short : (k : AddressKind) (digits : List ℕ) → length (marked k digits) ≤ suc (length digits)
+unfolding marked
+marked-short Icao digits = omega arith
+marked-short Other digits = omega arith
+marked-short Flagged digits = omega arith
+marked-short NoAddress digits = omega arith
+
+address-short : (message : List ℕ) → length (addressText message) ≤ 7
+unfolding addressText addressDigits hexText
+address-short message = marked-short _ _
 
 repairs-short : (ρ : Repairs) → length (repairsText ρ) ≤ 43
 unfolding repairsText
@@ -73,7 +82,7 @@ found-short window a h =
       decimal-short (a .index),
       float-long (a .fraction),
       length-avr (a .message),
-      address-long (a .message),
+      address-short (a .message),
       repairs-short (a .repairs),
       slicer-long (a .slicer),
       float-long (a .cn0),

@@ -6,12 +6,14 @@ use Prim.Native.Nat.{ℕ, zero, suc, _+_, _-_, _/_, _%_, _<_}
 use native.Mathlib.Omega.{arith}
 use lib.Dec.{ltb}
 use lib.Ieee.{Float}
+use Rattle.annex10.specs.declared.AddressKind.{AddressKind}
+use Rattle.annex10.specs.declared.AddressKind.the-variants.{Icao, Other, Flagged, NoAddress}
 use Rattle.annex10.specs.declared.Repairs.{Repairs}
 use Rattle.annex10.specs.declared.Repairs.the-variants.{None, One, Two}
 use Rattle.place.specs.declared.Slicer.{Slicer}
 use Rattle.place.specs.declared.Slicer.the-variants.{Coherent, Noncoherent}
 use Rattle.mode_s.specs.Avr.{hexDigit, hexText, avrText}
-use Rattle.listing.specs.Fields.{decimalIn, decimal, hexWord, floatText, addressText, repairsText, slicerText}
+use Rattle.listing.specs.Fields.{decimalIn, decimal, hexWord, floatText, addressDigits, marked, addressText, repairsText, slicerText}
 use Rattle.listing.proofs.Split.{Above, above-both, above-less}
 
 -- every digit is at least `0`
@@ -56,9 +58,16 @@ pub avr-visible : (m : List ℕ) → Above 0x20 (avrText m)
 unfolding avrText
 avr-visible m = (omega arith, above-both 0x20 (hexText m) (59 ∷ []) (hex-visible m) (omega arith, tt))
 
+marked-visible : (k : AddressKind) (digits : List ℕ) → Above 0x20 digits → Above 0x20 (marked k digits)
+unfolding marked
+marked-visible Icao digits h = (omega arith, h)
+marked-visible Other digits h = (omega arith, h)
+marked-visible Flagged digits h = (omega arith, h)
+marked-visible NoAddress digits h = (omega arith, tt)
+
 pub address-visible : (m : List ℕ) → Above 0x20 (addressText m)
-unfolding addressText
-address-visible m = hex-visible _
+unfolding addressText addressDigits
+address-visible m = marked-visible _ _ (hex-visible _)
 
 pub repairs-visible : (ρ : Repairs) → Above 0x20 (repairsText ρ)
 unfolding repairsText

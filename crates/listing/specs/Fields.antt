@@ -6,6 +6,9 @@ use Prim.Native.Nat.{ℕ, zero, suc, _+_, _/_, _%_, _^_}
 use lib.Dec.{ltb}
 use lib.ListN.{getD}
 use lib.Ieee.{Float, binary32, toBits}
+use Rattle.annex10.specs.Address.{addressKind}
+use Rattle.annex10.specs.declared.AddressKind.{AddressKind}
+use Rattle.annex10.specs.declared.AddressKind.the-variants.{Icao, Other, Flagged, NoAddress}
 use Rattle.annex10.specs.declared.Repairs.{Repairs}
 use Rattle.annex10.specs.declared.Repairs.the-variants.{None, One, Two}
 use Rattle.place.specs.declared.Slicer.{Slicer}
@@ -29,9 +32,20 @@ hexWord n = hexText (n / 2 ^ 24 ∷ n / 2 ^ 16 % 256 ∷ n / 2 ^ 8 % 256 ∷ n %
 unfoldable pub floatText : Float → List ℕ
 floatText x = hexWord (toBits binary32 x)
 
--- the address of the aircraft: bytes 1 to 3 of its message
+-- bytes 1 to 3 of a message
+unfoldable pub addressDigits : List ℕ → List ℕ
+addressDigits message = hexText (getD message 1 0 ∷ getD message 2 0 ∷ getD message 3 0 ∷ [])
+
+-- `I`, `X` or `?` before the digits of an address; `-` in place of the whole field where there is none
+unfoldable pub marked : AddressKind → List ℕ → List ℕ
+marked Icao digits = 0x49 ∷ digits
+marked Other digits = 0x58 ∷ digits
+marked Flagged digits = 0x3F ∷ digits
+marked NoAddress digits = 0x2D ∷ []
+
+-- the address of a message, of the kind that its first byte tells
 unfoldable pub addressText : List ℕ → List ℕ
-addressText message = hexText (getD message 1 0 ∷ getD message 2 0 ∷ getD message 3 0 ∷ [])
+addressText message = marked (addressKind (getD message 0 0)) (addressDigits message)
 
 -- `0`, `1:j` or `2:j,k`
 unfoldable pub repairsText : Repairs → List ℕ

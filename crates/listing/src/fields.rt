@@ -5,14 +5,17 @@ use crate::put::put_all;
 use crate::put::put_decimal;
 use crate::put::put_hex;
 use crate::put::put_word;
+use annex10::AddressKind;
 use annex10::Repairs;
 use mode_s::avr::format_avr;
+use mode_s::header::address_kind;
 use place::Slicer;
 use words::float::bits_of;
 ghost use mathlib.Core.Path.{_≡_};
+ghost use mathlib.Core.List.{_∷_};
 ghost use lib.ListN.{length};
 ghost use Rattle.mode_s.specs.Avr.{avrText};
-ghost use Rattle.listing.specs.Fields.{decimal, floatText, addressText, repairsText, slicerText};
+ghost use Rattle.listing.specs.Fields.{decimal, floatText, addressDigits, addressText, repairsText, slicerText};
 ghost use Rattle.listing.specs.Inner.{puts};
 
 // The bits of a float.
@@ -36,11 +39,23 @@ pub fn put_avr(t: Text, message: [u8; 14]) -> Text
     put_line(t, &line)
 }
 
-// Bytes 1 to 3.
+// A letter and bytes 1 to 3.
+fn put_marked(t: Text, letter: u8, message: [u8; 14]) -> Text
+    ensures { λ r. ⌜ r ≡ puts t (letter ∷ addressDigits message) ⌝ }
+{
+    put_hex(put_hex(put_hex(put(t, letter), message[1]), message[2]), message[3])
+}
+
+// The kind is that of the message's own first byte: an answer's message is repaired.
 pub fn put_address(t: Text, message: [u8; 14]) -> Text
     ensures { λ r. ⌜ r ≡ puts t (addressText message) ⌝ }
 {
-    put_hex(put_hex(put_hex(t, message[1]), message[2]), message[3])
+    match address_kind(message[0]) {
+        AddressKind::Icao => put_marked(t, b'I', message),
+        AddressKind::Other => put_marked(t, b'X', message),
+        AddressKind::Flagged => put_marked(t, b'?', message),
+        AddressKind::NoAddress => put(t, b'-'),
+    }
 }
 
 fn put_position(t: Text, j: u8) -> Text

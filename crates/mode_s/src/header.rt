@@ -1,7 +1,10 @@
-// The header of a message: its first byte, with the repairs that fall into it.
+// The header of a message: its first byte, with the repairs that fall into it, and whose address follows it.
 use crate::inside::lie_inside;
+use annex10::AddressKind;
 use annex10::Repairs;
 ghost use mathlib.Core.Path.{_≡_};
+ghost use Prim.Native.Nat.{_<_};
+ghost use Rattle.annex10.specs.Address.{byCapability, byControl, addressKind};
 ghost use Rattle.annex10.specs.Header.{longHeader};
 ghost use Rattle.annex10.specs.Repair.{repairedHead};
 ghost use Rattle.mode_s.specs.Header.{validityTold, headerOf};
@@ -74,4 +77,43 @@ pub fn header_is_valid(first: u8, repairs: Repairs) -> Validity
         return Validity::Valid;
     }
     Validity::Invalid
+}
+
+fn by_capability(code: u8) -> AddressKind
+    requires { ⌜ code < 8 ⌝ }
+    ensures { λ r. ⌜ r ≡ byCapability code ⌝ }
+{
+    if is_zero_or_within(code, 4, 7) {
+        return AddressKind::Icao;
+    }
+    AddressKind::NoAddress
+}
+
+fn by_control(code: u8) -> AddressKind
+    ensures { λ r. ⌜ r ≡ byControl code ⌝ }
+{
+    match code {
+        0 => AddressKind::Icao,
+        2 => AddressKind::Flagged,
+        3 => AddressKind::Flagged,
+        4 => AddressKind::NoAddress,
+        5 => AddressKind::Other,
+        6 => AddressKind::Flagged,
+        _ => AddressKind::NoAddress,
+    }
+}
+
+// What the three bytes behind a first byte are. The byte is taken as it is after the repairs.
+pub fn address_kind(first: u8) -> AddressKind
+    ensures { λ r. ⌜ r ≡ addressKind first ⌝ }
+{
+    let format = first / 8;
+    let code = first % 8;
+    if format == 17 {
+        return by_capability(code);
+    }
+    if format == 18 {
+        return by_control(code);
+    }
+    AddressKind::NoAddress
 }

@@ -1,4 +1,5 @@
 pub mod Flat
 pub mod Carriers
 pub mod Headers
+pub mod Addresses
 pub mod Versions

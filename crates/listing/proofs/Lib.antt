@@ -3,6 +3,7 @@ pub mod Digits
 pub mod Lengths
 pub mod Avr
 pub mod Worked
+pub mod Letters
 pub mod Split
 pub mod Visible
 pub mod Back

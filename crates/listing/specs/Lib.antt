@@ -1,4 +1,5 @@
 pub mod Fields
 pub mod Lines
+pub mod Letters
 pub mod Determines
 pub mod Inner

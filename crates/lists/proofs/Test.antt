@@ -1,13 +1,18 @@
--- Computed tests: over a table, and over the numbers below a bound.
+-- Tests: one of two, and computed ones over a table and over the numbers below a bound.
 -- Assumes nothing.
-use mathlib.Core.Path.{_≡_, _∙_, subst, sym}
-use mathlib.Core.Bool.{Bool, true, false}
+use mathlib.Core.Path.{_≡_, refl, _∙_, subst, sym}
+use mathlib.Core.Bool.{Bool, true, false, _||_, true≢false}
 use mathlib.Core.Logic.{_⊎_, inl, inr}
 use mathlib.Core.List.{List, [], _∷_}
 use Prim.Native.Nat.{ℕ, zero, suc, _+_, _<_}
 use native.Mathlib.Nat.{add-zero, zero-add, add-suc, suc-add, le-of-suc-le-suc, not-suc-le-zero, eq-or-lt-of-le}
 use lib.Dec.{T}
 use lib.ListN.{length, getD}
+
+-- neither of two tests passes
+pub or-none : (a b : Bool) → (a || b) ≡ false → (a ≡ false) × (b ≡ false)
+or-none false b e = (refl, e)
+or-none true b e = absurd (true≢false e)
 
 abbrev pub both : Bool → Bool → Bool
 both true b = b

@@ -17,6 +17,7 @@ use lib.Ieee.{Float}
 use Rattle.lists.specs.Bits.{value, packed}
 use Rattle.lists.proofs.Bits.{value-lt, value-split}
 use Rattle.lists.proofs.Table.{getD-tabulate}
+use Rattle.lists.proofs.Test.{or-none}
 use Rattle.annex10.specs.Header.{longHeader}
 use Rattle.annex10.specs.Remainder.{remainder}
 use Rattle.annex10.specs.Repair.{repaired, fitting, clearing}
@@ -35,7 +36,6 @@ use Rattle.scan.specs.Sieve.{laneOf}
 use Rattle.scan.specs.Exact.{cleanAt, exact}
 use Rattle.scan.specs.Inner.{Digits}
 use Rattle.scan.proofs.Starting.{bits-number, crc-start, digits-of}
-use Rattle.scan.proofs.Keeping.{or-none}
 
 -- ---- headers
 

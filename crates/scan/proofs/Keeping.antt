@@ -1,11 +1,11 @@
 -- The list that is kept without branches: each number is stored where the next one stands, and stays where it counts.
---     or-none, or-bits, bit-le   two tests as one bit
+--     or-bits, bit-le            two tests as one bit
 --     lane-is                    where the remainder of a place stands, as the code computes it
 --     kept-more, kept-none       one more number; where none is taken
 --     below                      how many are kept, and that each is below the bound
 -- Assumes nothing.
 use mathlib.Core.Path.{_≡_, refl, sym, ap, _∙_, subst}
-use mathlib.Core.Bool.{Bool, true, false, cond, _||_, true≢false}
+use mathlib.Core.Bool.{Bool, true, false, cond, _||_}
 use mathlib.Core.List.{List, [], _∷_, _++_}
 use Prim.Native.Nat.{ℕ, zero, suc, _+_, _*_, _/_, _%_, _<_, _≤_}
 use native.Mathlib.Nat.{add-zero, le-refl}
@@ -19,10 +19,6 @@ use Rattle.lists.specs.Bits.{asBit}
 use Rattle.scan.specs.Sieve.{kept, laneOf}
 
 -- ---- two tests as one bit
-
-pub or-none : (a b : Bool) → (a || b) ≡ false → (a ≡ false) × (b ≡ false)
-or-none false b e = (refl, e)
-or-none true b e = absurd (true≢false e)
 
 pub or-bits : (a b : Bool) → bitOr (asBit a) (asBit b) ≡ asBit (a || b)
 or-bits true true = refl

@@ -12,6 +12,7 @@ use native.Mathlib.Omega.{arith}
 use borrow.Author.Tests.{lt-ltb}
 use lib.Dec.{ltb}
 use lib.ListN.{getD}
+use Rattle.lists.proofs.Test.{or-none}
 use Rattle.annex10.specs.declared.Repairs.{Repairs}
 use Rattle.annex10.specs.declared.Repairs.the-variants.{None, One, Two}
 use Rattle.annex10.specs.declared.Found.{Found}
@@ -24,7 +25,6 @@ use Rattle.annex10.proofs.Unique.{apart-14}
 use Rattle.annex10.proofs.UpTo.{ClearsUpTo, up-to-found, up-to-gone, zero-gone}
 use Rattle.repairs.specs.Codes.{codeUpTo}
 use Rattle.scan.specs.Sieve.{laneOf}
-use Rattle.scan.proofs.Keeping.{or-none}
 use Rattle.sieve.specs.Repairable.{isFound, repairable, repairableAt}
 
 pub rep-none : (level r : ℕ) → ((n : ℕ) → 1 ≤ n → n ≤ level → clearing 14 n r ≡ Nothing) → repairable level r ≡ false

@@ -17,7 +17,7 @@ use lib.ListN.{length, getD}
 use lib.Bits.{bitXor, bitAnd, bitOr, xor-lt, and-mask, and-le-r}
 use lib.Pow.{pow-pos}
 use Rattle.lists.specs.Bits.{asBit}
-use Rattle.lists.proofs.Test.{both, both-left, both-right, allBelow, below, every, at}
+use Rattle.lists.proofs.Test.{or-none, both, both-left, both-right, allBelow, below, every, at}
 use Rattle.lists.proofs.Tree.{Tree, grow}
 use Rattle.annex10.specs.declared.Repairs.{Repairs}
 use Rattle.annex10.specs.declared.Repairs.the-variants.{None, One, Two}
@@ -30,7 +30,7 @@ use Rattle.annex10.proofs.UpTo.{up-to-none, none-not-zero, gone-high}
 use Rattle.repairs.specs.Codes.{codeUpTo}
 use Rattle.sieve.specs.declared.list.Shape.{Shape}
 use Rattle.scan.specs.Sieve.{laneOf}
-use Rattle.scan.proofs.Keeping.{or-none, or-bits, lane-is}
+use Rattle.scan.proofs.Keeping.{or-bits, lane-is}
 use Rattle.sieve.specs.Repairable.{repairableAt}
 use Rattle.sieve.specs.Inner.{slotOf, lets, letIn, Shaped, Owners, asks}
 use Rattle.sieve.proofs.Placed.{placed, read, stands, read-is}

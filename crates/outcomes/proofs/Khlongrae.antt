@@ -4,6 +4,7 @@ use mathlib.Core.Path.{refl}
 use denote.Ref.{now}
 use Rattle.outcomes.specs.Outcome.{Fixed, answer}
 use Rattle.outcomes.proofs.Law.{fixes, answer-set}
+use Rattle.khlongrae.proofs.address.khlongrae_address_kind as address-khlongrae-address-kind
 use Rattle.khlongrae.proofs.decode.khlongrae_decode as decode-khlongrae-decode
 use Rattle.khlongrae.proofs.header.khlongrae_header as header-khlongrae-header
 use Rattle.khlongrae.proofs.message.khlongrae_avr as message-khlongrae-avr
@@ -13,6 +14,11 @@ use Rattle.khlongrae.proofs.spectrum.khlongrae_carrier_notched_power as spectru
 use Rattle.khlongrae.proofs.spectrum.khlongrae_check_carrier_metric as spectrum-khlongrae-check-carrier-metric
 use Rattle.khlongrae.proofs.spectrum.khlongrae_check_local_maximum as spectrum-khlongrae-check-local-maximum
 use Rattle.khlongrae.proofs.version.khlongrae_version as version-khlongrae-version
+
+pub address-khlongrae-address-kind-fixed : Fixed address-khlongrae-address-kind.ended (answer _) (λ M 𝓤 H. address-khlongrae-address-kind.clauses 𝓤 H) (λ M 𝓤 H. address-khlongrae-address-kind.spec 𝓤 H)
+address-khlongrae-address-kind-fixed =
+    fixes address-khlongrae-address-kind.ended _ (answer-set address-khlongrae-address-kind.ended) refl (λ κs. refl)
+    (λ κs a r e. r) (λ κs a y. (y, (tt, tt))) (λ κs a r ws. refl)
 
 pub decode-khlongrae-decode-fixed : Fixed decode-khlongrae-decode.ended (answer _) (λ M 𝓤 H. decode-khlongrae-decode.clauses 𝓤 H) (λ M 𝓤 H. decode-khlongrae-decode.spec 𝓤 H)
 decode-khlongrae-decode-fixed =

@@ -158,6 +158,19 @@ static void headers(void) {
     CHECK(header_is(0x88, 3, 112, 112, KHLONGRAE_LEVEL, 0));
 }
 
+/* the letters of the listing, by kind: those of both header lists, and none for any other first byte */
+static void addresses(void) {
+    static const struct { uint8_t first; uint32_t kind; } taken[] = {
+        {0x88, KHLONGRAE_ADDRESS_ICAO}, {0x8C, KHLONGRAE_ADDRESS_ICAO}, {0x8D, KHLONGRAE_ADDRESS_ICAO}, {0x8E, KHLONGRAE_ADDRESS_ICAO},
+        {0x8F, KHLONGRAE_ADDRESS_ICAO}, {0x90, KHLONGRAE_ADDRESS_ICAO}, {0x92, KHLONGRAE_ADDRESS_FLAGGED},
+        {0x93, KHLONGRAE_ADDRESS_FLAGGED}, {0x95, KHLONGRAE_ADDRESS_OTHER}, {0x96, KHLONGRAE_ADDRESS_FLAGGED}};
+    for (unsigned first = 0, next = 0; first < 256; first++) {
+        uint32_t kind = KHLONGRAE_NO_ADDRESS;
+        if (next < sizeof taken / sizeof taken[0] && taken[next].first == first) kind = taken[next++].kind;
+        CHECK(khlongrae_address_kind((uint8_t)first) == kind);
+    }
+}
+
 static void carriers(void) {
     float spectrum[16] = {1, 1, 1, 1, 1, 1, 1, 1, 1, 10, 4, 1, 1, 1, 1, 1};
     static const float before[5] = {3, 2, 3, 1, 1}, first[5] = {1, 2, 3, 3, 1};
@@ -191,6 +204,7 @@ int main(void) {
     environments();
     messages();
     headers();
+    addresses();
     carriers();
     printf("calls: %d checks, %d wrong\n", done, wrong);
     return wrong != 0;

@@ -30,12 +30,26 @@ static float read_float(FILE *file) {
     return number;
 }
 
+/* the address as a listing has it: the letter of its kind before the digits, `-` where there is none */
+static void print_address(const uint8_t *message) {
+    char letter = '-';
+    switch (khlongrae_address_kind(message[0])) {
+    case KHLONGRAE_ADDRESS_ICAO: letter = 'I'; break;
+    case KHLONGRAE_ADDRESS_OTHER: letter = 'X'; break;
+    case KHLONGRAE_ADDRESS_FLAGGED: letter = '?'; break;
+    }
+    printf(" address %c", letter);
+    if (letter != '-') printf("%02X%02X%02X", message[1], message[2], message[3]);
+}
+
 static void print_found(unsigned window, const uint8_t *message, const uint64_t *words) {
     uint8_t line[KHLONGRAE_LINE];
     if (khlongrae_avr(message, KHLONGRAE_MESSAGE, line, sizeof line) != KHLONGRAE_DONE) stop("no AVR line");
-    printf("%u %.*s place %" PRIu64 ",%" PRIu64 ",%" PRIu64 " index %" PRIu64 " slicer %c repairs %" PRIu64, window, (int)sizeof line,
-           (const char *)line, words[KHLONGRAE_WORD_BIT], words[KHLONGRAE_WORD_PHASE], words[KHLONGRAE_WORD_SYMBOL],
-           words[KHLONGRAE_WORD_INDEX], words[KHLONGRAE_WORD_SLICER] == KHLONGRAE_COHERENT ? 'C' : 'N', words[KHLONGRAE_WORD_REPAIRS]);
+    printf("%u %.*s", window, (int)sizeof line, (const char *)line);
+    print_address(message);
+    printf(" place %" PRIu64 ",%" PRIu64 ",%" PRIu64 " index %" PRIu64 " slicer %c repairs %" PRIu64, words[KHLONGRAE_WORD_BIT],
+           words[KHLONGRAE_WORD_PHASE], words[KHLONGRAE_WORD_SYMBOL], words[KHLONGRAE_WORD_INDEX],
+           words[KHLONGRAE_WORD_SLICER] == KHLONGRAE_COHERENT ? 'C' : 'N', words[KHLONGRAE_WORD_REPAIRS]);
     if (words[KHLONGRAE_WORD_REPAIRS] > 0) printf(":%" PRIu64, words[KHLONGRAE_WORD_FIRST]);
     if (words[KHLONGRAE_WORD_REPAIRS] > 1) printf(",%" PRIu64, words[KHLONGRAE_WORD_SECOND]);
     printf("\n");

@@ -118,6 +118,18 @@ struct khlongrae_header_answer {
  * 2), or 8 (a counted position above 111). */
 struct khlongrae_header_answer khlongrae_header(uint8_t first, uint32_t count, uint32_t j, uint32_t k);
 
+/* What the three bytes behind a first byte are. */
+enum khlongrae_address {
+    KHLONGRAE_NO_ADDRESS = 0,     /* no address: a management message (format 18, control code 4), and every header that is not taken */
+    KHLONGRAE_ADDRESS_ICAO = 1,   /* an ICAO address: format 17, and format 18 with control code 0 */
+    KHLONGRAE_ADDRESS_OTHER = 2,  /* an address of another kind: format 18 with control code 5 */
+    KHLONGRAE_ADDRESS_FLAGGED = 3 /* one or the other, as a flag inside the message tells: format 18 with control code 2, 3 or 6 */
+};
+
+/* Whose address it is: see enum khlongrae_address. The first byte is taken as it is after the repairs: message[0] of a decode. Only an
+ * ICAO address names an aircraft of the ICAO register. */
+uint32_t khlongrae_address_kind(uint8_t first);
+
 /* ---- The carrier, in a spectrum of N floats, N even, 4 to 4,096 (else 2) */
 
 struct khlongrae_search_answer {

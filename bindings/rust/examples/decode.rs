@@ -25,7 +25,12 @@ fn run() -> Result<(), Box<dyn Error>> {
             None => writeln!(output, "{k} none")?,
             Some(found) => {
                 let Answer { place, index, slicer, repairs, .. } = found;
-                writeln!(output, "{k} {} place {place} index {index} slicer {slicer} repairs {repairs}", found.avr())?;
+                let address = found.address().map_or_else(|| "-".into(), |address| address.to_string());
+                writeln!(
+                    output,
+                    "{k} {} address {address} place {place} index {index} slicer {slicer} repairs {repairs}",
+                    found.avr()
+                )?;
             }
         }
     }

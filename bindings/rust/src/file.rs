@@ -31,7 +31,7 @@ pub struct Window {
 /// for window in windows {
 ///     let window = window?;
 ///     if let Some(answer) = khlongrae::decode(&window.samples, settings, window.index)? {
-///         println!("{} {}", answer.address(), answer.avr());
+///         println!("{} {:?}", answer.avr(), answer.address());
 ///     }
 /// }
 /// # Ok::<(), Box<dyn std::error::Error>>(())

@@ -20,6 +20,7 @@
 #[cfg(feature = "std")]
 extern crate std;
 
+mod address;
 mod carrier;
 #[cfg(feature = "std")]
 mod file;
@@ -29,6 +30,7 @@ mod refusal;
 mod repairs;
 mod window;
 
+pub use address::{Address, AddressKind, address_kind};
 pub use carrier::{Carrier, Strongest, carrier_notched_power, check_carrier_metric, check_local_maximum, long_fft_max_search};
 #[cfg(feature = "std")]
 pub use file::{FileError, MOST_WINDOWS, Malformed, Window, Windows};
@@ -36,7 +38,7 @@ pub use message::{AvrLine, avr, header, remainder};
 pub use raw::{FLOATS, LINE, MESSAGE, SHORT_LINE, SHORT_MESSAGE, VERSION, WINDOW, WORDS};
 pub use refusal::Refusal;
 pub use repairs::{Positions, Repairs};
-pub use window::{Address, Answer, Place, Settings, Slicer, decode, decode_into};
+pub use window::{Answer, Place, Settings, Slicer, decode, decode_into};
 
 /// The number of the library's interface. Compare it with [`VERSION`] before any other call: it grows where a signature or the
 /// meaning of a field changes.

@@ -71,6 +71,15 @@ pub const FLOAT_CN0: usize = 0;
 /// Of the floats, how far between two samples the message came.
 pub const FLOAT_FRACTION: usize = 1;
 
+/// Behind a first byte: no address.
+pub const NO_ADDRESS: u32 = 0;
+/// Behind a first byte: an ICAO address.
+pub const ADDRESS_ICAO: u32 = 1;
+/// Behind a first byte: an address of another kind.
+pub const ADDRESS_OTHER: u32 = 2;
+/// Behind a first byte: an address whose kind a flag inside the message tells.
+pub const ADDRESS_FLAGGED: u32 = 3;
+
 /// What [`khlongrae_header`] answers.
 #[derive(Clone, Copy, Debug)]
 #[repr(C)]
@@ -156,6 +165,8 @@ unsafe extern "C" {
     pub fn khlongrae_remainder(bytes: *const u8, bytes_len: usize) -> u32;
     /// Whether a first byte is that of an extended squitter once so many of its bits are turned over.
     pub fn khlongrae_header(first: u8, count: u32, j: u32, k: u32) -> Header;
+    /// What the three bytes behind a first byte are, by the byte as it is after the repairs.
+    pub fn khlongrae_address_kind(first: u8) -> u32;
     /// The strongest bin within `search` of the middle.
     pub fn khlongrae_long_fft_max_search(answer: *mut Search, spectrum: *const f32, spectrum_len: usize, search: usize) -> *mut Search;
     /// The power outside of bin - notch to bin + notch.

@@ -1,6 +1,6 @@
 //! The decode of a window.
 use crate::raw::{FLOATS, MESSAGE, WORDS};
-use crate::{AvrLine, Refusal, Repairs, raw};
+use crate::{Address, AvrLine, Refusal, Repairs, address_kind, raw};
 use core::fmt;
 
 /// What a decode lets pass.
@@ -60,29 +60,6 @@ impl fmt::Display for Slicer {
     }
 }
 
-/// The address field of a message: its bytes 1 to 3, the first one highest. Addresses are ordered as their numbers are.
-///
-/// In a message of format 17 it is an ICAO address. In one of format 18 it may be an address of another kind, or none: that stands
-/// elsewhere in the message, and this type does not say it.
-#[derive(Clone, Copy, Debug, PartialEq, Eq, PartialOrd, Ord, Hash)]
-pub struct Address(pub [u8; 3]);
-
-impl Address {
-    /// The address as a number of 24 bits.
-    #[must_use]
-    pub fn number(self) -> u32 {
-        let [high, middle, low] = self.0;
-        u32::from_be_bytes([0, high, middle, low])
-    }
-}
-
-/// As a listing has it: six capital hex digits.
-impl fmt::Display for Address {
-    fn fmt(&self, f: &mut fmt::Formatter<'_>) -> fmt::Result {
-        write!(f, "{:06X}", self.number())
-    }
-}
-
 /// What a decode found. Either float is no number where the samples are such that none can be told.
 #[derive(Clone, Copy, Debug, PartialEq)]
 pub struct Answer {
@@ -117,10 +94,11 @@ impl Answer {
         bytes
     }
 
-    /// The message's address field.
+    /// The message's address, or `None` where the message claims none: then bytes 1 to 3 are no address, and a listing has `-`.
     #[must_use]
-    pub fn address(&self) -> Address {
-        Address([self.message[1], self.message[2], self.message[3]])
+    pub fn address(&self) -> Option<Address> {
+        let [first, high, middle, low, ..] = self.message;
+        Some(Address { kind: address_kind(first)?, bytes: [high, middle, low] })
     }
 
     /// The message's AVR line, as display programs take it.

@@ -111,11 +111,11 @@ fn repairs_are_counted_printed_and_gone_through() {
 
 #[test]
 fn an_answer_is_printed_as_a_listing_has_it() {
-    assert_eq!(FOUND.address(), Address([0x07, 0x76, 0xAC]));
-    assert_eq!(FOUND.address().number(), 0x07_76AC);
-    assert_eq!(FOUND.address().to_string(), "0776AC");
-    assert_eq!(Address([0, 0, 10]).to_string(), "00000A");
-    assert!(Address([0, 1, 0]) > Address([0, 0, 255]));
+    let address = FOUND.address().unwrap();
+    assert_eq!(address, Address { kind: AddressKind::Icao, bytes: [0x07, 0x76, 0xAC] });
+    assert_eq!((address.number(), address.to_string().as_str()), (0x07_76AC, "I0776AC"));
+    assert_eq!(Address { kind: AddressKind::Other, bytes: [0, 0, 10] }.to_string(), "X00000A");
+    assert!(Address { bytes: [0, 1, 0], ..address } > Address { bytes: [0, 0, 255], ..address });
     assert_eq!((Slicer::Coherent.to_string(), Slicer::Noncoherent.to_string()), ("C".into(), "N".into()));
     assert_eq!(FOUND.place.to_string(), "15,3,1");
     assert_eq!(FOUND.avr().as_str(), "*880776AC00000000000000000000;");
@@ -212,6 +212,25 @@ fn headers() {
     for far in [112, 256 + 7, u32::MAX] {
         assert_eq!(header(0x89, Repairs::One(far)), Err(Refusal::Position));
         assert_eq!(header(0x89, Repairs::Two(7, far)), Err(Refusal::Position));
+    }
+}
+
+#[test]
+fn only_a_header_that_is_taken_claims_an_address() {
+    for first in 0..=255 {
+        // the request's words: I for format 17 and format 18 code 0, X for code 5, ? for 2, 3 and 6, none for 4
+        let letter = match (first >> 3, first & 7) {
+            (17, 0 | 4..=7) | (18, 0) => "I",
+            (18, 5) => "X",
+            (18, 2 | 3 | 6) => "?",
+            _ => "-",
+        };
+        assert_eq!(address_kind(first).map_or("-".into(), |kind| kind.to_string()), letter, "{first:02X}");
+        assert!(address_kind(first).is_none() || header(first, Repairs::None) == Ok(true));
+        let mut message = WORKED;
+        message[0] = first;
+        let address = Answer { message, ..FOUND }.address().map_or("-".into(), |address| address.to_string());
+        assert_eq!(address, if letter == "-" { letter.into() } else { format!("{letter}0776AC") });
     }
 }
 

@@ -119,7 +119,7 @@ fn a_file_is_read() {
 fn the_samples_are_listed() {
     let folder = Path::new(env!("CARGO_MANIFEST_DIR")).join("../../samples");
     let bits = |x: f32| if x.is_nan() { 0x7FC0_0000 } else { x.to_bits() };
-    for name in ["listing", "noisy", "silent"] {
+    for name in ["addresses", "listing", "noisy", "silent"] {
         let windows = Windows::new(std::fs::File::open(folder.join(name).with_extension("win")).unwrap()).unwrap();
         let settings = windows.settings();
         let mut text = format!("windows {}\n", windows.announced());
@@ -129,7 +129,8 @@ fn the_samples_are_listed() {
                 None => writeln!(text, "{k} none").unwrap(),
                 Some(found) => {
                     let Answer { index, fraction, repairs, slicer, cn0, .. } = found;
-                    let (avr, address, fraction, cn0) = (found.avr(), found.address(), bits(fraction), bits(cn0));
+                    let address = found.address().map_or("-".into(), |address| address.to_string());
+                    let (avr, fraction, cn0) = (found.avr(), bits(fraction), bits(cn0));
                     writeln!(text, "{k} {index} {fraction:08X} {avr} {address} {repairs} {slicer} {cn0:08X}").unwrap();
                 }
             }

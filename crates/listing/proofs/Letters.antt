@@ -4,10 +4,13 @@ use mathlib.Core.Path.{_≡_, refl, ap}
 use mathlib.Core.Bool.{Bool, true, false, _&&_, cond}
 use mathlib.Core.List.{_∷_}
 use Prim.Native.Nat.{ℕ, _/_, _%_}
+use native.Mathlib.Omega.{arith}
 use lib.Dec.{eqb}
 use Rattle.lists.proofs.Test.{or-none}
 use Rattle.annex10.specs.Header.{oneOf, capabilities, controls, longHeader}
 use Rattle.annex10.specs.Address.{byCapability, byControl, addressKind}
+use Rattle.annex10.specs.Repair.{repaired}
+use Rattle.annex10.proofs.Repairing.{head-is}
 use Rattle.annex10.specs.declared.AddressKind.{AddressKind}
 use Rattle.annex10.specs.declared.AddressKind.the-variants.{NoAddress}
 use Rattle.listing.specs.Fields.{addressDigits, marked, addressText}
@@ -47,4 +50,5 @@ letters =
     record {
       listed = λ x y z rest. refl;
       others = λ first rest h. ap (λ (k : AddressKind). marked k (addressDigits (first ∷ rest))) (unlisted first h);
+      after = λ first rest ρ. ap (λ (b : ℕ). marked (addressKind b) (addressDigits (repaired (first ∷ rest) ρ))) (head-is (first ∷ rest) ρ (omega arith));
     }

@@ -5,8 +5,11 @@ use mathlib.Core.Bool.{false}
 use mathlib.Core.List.{List, [], _∷_, _++_, map}
 use Prim.Native.Nat.{ℕ, _+_, _*_}
 use Rattle.annex10.specs.Header.{capabilities, controls, longHeader}
+use Rattle.annex10.specs.Address.{addressKind}
+use Rattle.annex10.specs.Repair.{repaired, repairedHead}
+use Rattle.annex10.specs.declared.Repairs.{Repairs}
 use Rattle.mode_s.specs.Avr.{hexText}
-use Rattle.listing.specs.Fields.{addressText}
+use Rattle.listing.specs.Fields.{addressDigits, marked, addressText}
 
 -- the first bytes that a decode takes, list by list
 abbrev pub headers : List ℕ
@@ -30,6 +33,10 @@ pub record Letters : Type 0 where
   -- format 17 with capability 0, 4, 5, 6 and 7, then format 18 with control code 0, 2, 3, 4, 5 and 6
   pub listed : (x y z : ℕ) (rest : List ℕ) → let d = hexText (x ∷ y ∷ z ∷ []) in
       map (λ (first : ℕ). addressText (first ∷ x ∷ y ∷ z ∷ rest)) headers
-      ≡ I d ∷ I d ∷ I d ∷ I d ∷ I d ∷ I d ∷ asked d ∷ asked d ∷ dash ∷ X d ∷ asked d ∷ []
+      ≡ I d ∷ I d ∷ I d ∷ I d ∷ I d
+      ∷ I d ∷ asked d ∷ asked d ∷ dash ∷ X d ∷ asked d ∷ []
   -- no other first byte claims an address
   pub others : (first : ℕ) (rest : List ℕ) → longHeader first ≡ false → addressText (first ∷ rest) ≡ dash
+  -- of a message that was repaired, the kind is that of the first byte as its header was checked: after the repairs, not as it was received
+  pub after : (first : ℕ) (rest : List ℕ) (ρ : Repairs) → let message = repaired (first ∷ rest) ρ in
+      addressText message ≡ marked (addressKind (repairedHead first ρ)) (addressDigits message)

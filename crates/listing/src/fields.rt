@@ -43,10 +43,8 @@ pub fn put_avr(t: Text, message: [u8; 14]) -> Text
 fn put_marked(t: Text, letter: u8, message: [u8; 14]) -> Text
     ensures { λ r. ⌜ r ≡ puts t (letter ∷ addressDigits message) ⌝ }
 {
-    put_hex(
-        put_hex(put_hex(put(t, letter), message[1]), message[2]),
-        message[3],
-    )
+    let t = put(t, letter);
+    put_hex(put_hex(put_hex(t, message[1]), message[2]), message[3])
 }
 
 // The kind is that of the message's own first byte: an answer's message is repaired.

@@ -184,6 +184,16 @@ fn lookups(f: &mut Faults, t: &Tables) {
     println!("lookups: all 16,777,216 remainders, {singles} single and {doubles} double errors");
 }
 
+/// By the number of the kind.
+const ADDRESS_NAMES: &[&str] = &["address: none", "address: ICAO", "address: another kind", "address: told by a flag"];
+
+/// Whose address a message has, by the rules; the Rust does not tell.
+fn address(c: &mut Counts, f: &mut Faults, number: u64, message: &[u8; 14]) {
+    let kind = rules::address_kind(message[0]);
+    f.same("kind of address", number, proved::address_kind(message[0]), kind);
+    c.met(ADDRESS_NAMES[kind as usize], true);
+}
+
 /// Calls that are refused: the number, and lent memory as it was.
 fn refusals(c: &mut Counts, f: &mut Faults, r: &mut Random, t: &Tables, number: u64, samples: &[f32], s: Settings, index: u64) {
     let bad = [f32::NAN, f32::INFINITY, f32::NEG_INFINITY];
@@ -303,7 +313,7 @@ fn has(samples: &[f32], test: impl Fn(f32) -> bool) -> bool {
 fn main() {
     let g = given();
     let t = &Tables::new();
-    let names = [rules::NAMES, generate::NAMES, KERNEL_NAMES].concat();
+    let names = [rules::NAMES, generate::NAMES, KERNEL_NAMES, ADDRESS_NAMES].concat();
     let c = &mut Counts::of(&names);
     let causes = &mut Counts::of(CAUSES);
     let f = &mut Faults::default();
@@ -315,6 +325,9 @@ fn main() {
         s: oracle_s::Oracle::default(),
     };
     f.same("the check value of the CRC, by the division", 0, oracle_a::checksum(b"123456789"), divided(b"123456789"));
+    for first in 0..=255 {
+        f.same("kind of address, by the first byte", u64::from(first), proved::address_kind(first), rules::address_kind(first));
+    }
     if g.lookups {
         lookups(f, t);
     }
@@ -390,6 +403,9 @@ fn main() {
                 brings.iter().for_each(|&k| met_before[k] += 1);
                 recorded.push(recipe.record(&b));
             }
+        }
+        if ours.number == 0 {
+            address(c, f, number, &ours.message);
         }
         if told.elapsed().as_secs() >= 10 {
             told = Instant::now();

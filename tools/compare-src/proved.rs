@@ -109,6 +109,9 @@ pub fn distance(a: &[u8], b: &[u8], offset: usize) -> Number {
 pub fn header(bytes: &[u8], offset: usize, [count, j, k]: [u8; 3]) -> Number {
     unsafe { probe_header(bytes.as_ptr(), bytes.len(), offset, u32::from(count), j, k) }
 }
+pub fn address_kind(first: u8) -> u32 {
+    unsafe { raw::khlongrae_address_kind(first) }
+}
 pub fn single(crc: u32) -> Found {
     unsafe { probe_single(crc) }
 }

@@ -79,6 +79,17 @@ pub fn header(first: u8) -> bool {
         _ => false,
     }
 }
+/// What the three bytes behind a first byte are: 1 an ICAO address, 2 one of another kind, 3 one whose kind a flag inside the message
+/// tells, 0 none.
+pub fn address_kind(first: u8) -> u32 {
+    match (first >> 3, first & 7) {
+        _ if !header(first) => 0,
+        (17, _) | (_, 0) => 1,
+        (_, 5) => 2,
+        (_, 4) => 0,
+        _ => 3,
+    }
+}
 fn good(message: u128) -> bool {
     header((message >> 104) as u8)
 }

@@ -26,11 +26,7 @@ fn run() -> Result<(), Box<dyn Error>> {
             Some(found) => {
                 let Answer { place, index, slicer, repairs, .. } = found;
                 let address = found.address().map_or_else(|| "-".into(), |address| address.to_string());
-                writeln!(
-                    output,
-                    "{k} {} address {address} place {place} index {index} slicer {slicer} repairs {repairs}",
-                    found.avr()
-                )?;
+                writeln!(output, "{k} {} address {address} place {place} index {index} slicer {slicer} repairs {repairs}", found.avr())?;
             }
         }
     }

@@ -218,7 +218,6 @@ fn headers() {
 #[test]
 fn only_a_header_that_is_taken_claims_an_address() {
     for first in 0..=255 {
-        // the request's words: I for format 17 and format 18 code 0, X for code 5, ? for 2, 3 and 6, none for 4
         let letter = match (first >> 3, first & 7) {
             (17, 0 | 4..=7) | (18, 0) => "I",
             (18, 5) => "X",

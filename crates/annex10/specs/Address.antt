@@ -8,15 +8,15 @@ use Rattle.annex10.specs.Header.{oneOf, capabilities}
 use Rattle.annex10.specs.declared.AddressKind.{AddressKind}
 use Rattle.annex10.specs.declared.AddressKind.the-variants.{Icao, Other, Flagged, NoAddress}
 
--- the capability of format 17: an aircraft that sends for itself gives its ICAO address
+-- format 17, by its capability: with each that is listed they are an ICAO address
 unfoldable pub byCapability : ℕ → AddressKind
 byCapability code = cond (oneOf capabilities code) Icao NoAddress
 
--- the control field of format 18: 0 gives an ICAO address, 5 another kind; in 2, 3 and 6 a flag inside the message tells which of the
--- two it is; 4, a management message, and what is not listed give none
+-- format 18, by its control field: with 0 an ICAO address, with 5 one of another kind; with 2, 3 and 6 a flag inside the message tells
+-- which of the two; with 4, a management message, and with what is not listed none
 unfoldable pub byControl : ℕ → AddressKind
 byControl code = cond (eqb code 0) Icao (cond (eqb code 5) Other (cond (oneOf (2 ∷ 3 ∷ 6 ∷ []) code) Flagged NoAddress))
 
--- WHOSE ADDRESS IT IS; a first byte of any other format claims none
+-- WHOSE ADDRESS IT IS: a first byte of any other format claims none
 unfoldable pub addressKind : ℕ → AddressKind
 addressKind b = cond (eqb (b / 8) 17) (byCapability (b % 8)) (cond (eqb (b / 8) 18) (byControl (b % 8)) NoAddress)

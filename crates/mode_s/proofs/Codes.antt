@@ -30,6 +30,6 @@ pub control : (c : ℕ) → c < 8 → zeroOrWithin 2 6 c ≡ oneOf controls c
 unfolding test zeroOrWithin oneOf
 control = spans controls 2 6 tt
 
-pub or-none : (b : Bool) → b ≡ (b || false)
-or-none true = refl
-or-none false = refl
+pub or-false : (b : Bool) → b ≡ (b || false)
+or-false true = refl
+or-false false = refl

@@ -1,6 +1,6 @@
 -- `mode_s::header::is_long` meets its contract: each format with its own list of codes.
 -- Assumes nothing.
-use Rattle.mode_s.proofs.Codes.{or-none, capability, control}
+use Rattle.mode_s.proofs.Codes.{or-false, capability, control}
 use Prim.Native.Nat.{_/_}
 use mathlib.Core.Path.{_≡_, _∙_}
 use borrow.Author.Tests.{ne-eqb}
@@ -17,7 +17,7 @@ returns : tie.Need-returns
 unfolding longHeader
 returns c =
     let e : c .before .before .args .first / 8 ≡ 17 = c .before .if1 .taken in
-    rw e (c .is-zero-or-within .ensures ∙ capability _ (omega arith) ∙ or-none _)
+    rw e (c .is-zero-or-within .ensures ∙ capability _ (omega arith) ∙ or-false _)
 
 is-zero-or-within-requires-2 : tie.Need-is-zero-or-within-requires-2
 is-zero-or-within-requires-2 c κs = search needs

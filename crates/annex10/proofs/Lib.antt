@@ -10,3 +10,4 @@ pub mod Positions
 pub mod Rolling
 pub mod Any
 pub mod UpTo
+pub mod Length

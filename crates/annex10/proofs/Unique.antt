@@ -158,4 +158,4 @@ pub apart-14 : Apart 14
 apart-14 = record { same = same }
 
 pub apart-7 : Apart 7
-apart-7 = shorter 7 (shorter 8 (shorter 9 (shorter 10 (shorter 11 (shorter 12 (shorter 13 apart-14))))))
+apart-7 = shorter 7 7 apart-14

@@ -8,7 +8,7 @@ use Rattle.annex10.specs.Header.{oneOf, capabilities}
 use Rattle.annex10.specs.declared.AddressKind.{AddressKind}
 use Rattle.annex10.specs.declared.AddressKind.the-variants.{Icao, Other, Flagged, NoAddress}
 
--- format 17, by its capability: with each that is listed they are an ICAO address
+-- formats 11 and 17, by their capability: with each that is listed they are an ICAO address
 unfoldable pub byCapability : ℕ → AddressKind
 byCapability code = cond (oneOf capabilities code) Icao NoAddress
 
@@ -19,4 +19,6 @@ byControl code = cond (eqb code 0) Icao (cond (eqb code 5) Other (cond (oneOf (2
 
 -- WHOSE ADDRESS IT IS: a first byte of any other format claims none
 unfoldable pub addressKind : ℕ → AddressKind
-addressKind b = cond (eqb (b / 8) 17) (byCapability (b % 8)) (cond (eqb (b / 8) 18) (byControl (b % 8)) NoAddress)
+addressKind b =
+    cond (eqb (b / 8) 11) (byCapability (b % 8))
+    (cond (eqb (b / 8) 17) (byCapability (b % 8)) (cond (eqb (b / 8) 18) (byControl (b % 8)) NoAddress))

@@ -3,6 +3,7 @@ pub mod Division
 pub mod Flip
 pub mod Header
 pub mod Address
+pub mod Length
 pub mod Repair
 pub mod Any
 pub mod Codes

@@ -8,6 +8,7 @@ use lib.ListN.{length}
 use lib.Ieee.{Float}
 use Rattle.lists.specs.Bits.{bitAt}
 use Rattle.lists.specs.Told.{Told, done, refused, tell}
+use Rattle.annex10.specs.Length.{messageLength}
 use Rattle.math.specs.Complex.{plusOf, normOf}
 use Rattle.math.specs.Sum.{total}
 use Rattle.kernels.specs.Symbols.{complexAt}
@@ -34,11 +35,11 @@ powerOf n symbols message = total (pulseNorm symbols message) (8 * n)
 unfoldable pub noiseOf : ℕ → List Float → List ℕ → Float
 noiseOf n samples message = total (emptyNorm samples message) (8 * n)
 
--- the number of a call: so many floats, and 14 bytes, else 2
+-- the number of a call: a message, and so many floats for each of its bytes, else 2
 unfoldable pub powerNumber : ℕ → List Float → List ℕ → ℕ
 powerNumber floats xs message =
-    cond (eqb (length xs) floats)
-    (cond (eqb (length message) 14) 0
+    cond (messageLength (length message))
+    (cond (eqb (length xs) (floats * length message)) 0
     2)
     2
 
@@ -47,10 +48,10 @@ abbrev pub powerTold : Power → Told Float
 powerTold (Is p) = done p
 powerTold (Refused n) = refused n
 
--- what `postdecode_power` answers: 224 symbols, 14 bytes
+-- what `postdecode_power` answers: 16 symbols for each byte
 unfoldable pub powerAt : List Float → List ℕ → Told Float
-powerAt symbols message = tell (powerNumber 448 symbols message) (powerOf 14 symbols message)
+powerAt symbols message = tell (powerNumber 32 symbols message) (powerOf (length message) symbols message)
 
--- what `postdecode_noise_power` answers: 896 samples, 14 bytes
+-- what `postdecode_noise_power` answers: 64 samples for each byte
 unfoldable pub noisePowerAt : List Float → List ℕ → Told Float
-noisePowerAt samples message = tell (powerNumber 1792 samples message) (noiseOf 14 samples message)
+noisePowerAt samples message = tell (powerNumber 128 samples message) (noiseOf (length message) samples message)

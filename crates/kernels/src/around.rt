@@ -1,4 +1,5 @@
 // The powers of a message at its place's neighbours, in one pass over its bits: no sum waits for another.
+use crate::length::is_message;
 use crate::norms::bit_of;
 use crate::norms::pulse_norm;
 ghost use mathlib.Core.Path.{_≡_};
@@ -13,7 +14,7 @@ pub struct Around {
     pub latest: f32,
 }
 
-// From the 224 symbols of each neighbour. Refused: 2 another length.
+// Of a message of 7 or 14 bytes, from the 16 symbols of each byte at each neighbour. Refused: 2 another length.
 pub fn powers_around(
     earliest: &[f32],
     earlier: &[f32],
@@ -30,26 +31,28 @@ pub fn powers_around(
         later: 0.0,
         latest: 0.0,
     };
-    if earliest.len() != 448 {
+    let n = message.len();
+    if !is_message(n) {
         return refused;
     }
-    if earlier.len() != 448 {
+    let numbers = 32 * n;
+    if earliest.len() != numbers {
         return refused;
     }
-    if later.len() != 448 {
+    if earlier.len() != numbers {
         return refused;
     }
-    if latest.len() != 448 {
+    if later.len() != numbers {
         return refused;
     }
-    if message.len() != 14 {
+    if latest.len() != numbers {
         return refused;
     }
     let mut w: f32 = 0.0;
     let mut x: f32 = 0.0;
     let mut y: f32 = 0.0;
     let mut z: f32 = 0.0;
-    for k in 0..14 {
+    for k in 0..message.len() {
         let byte = message[k];
         for m in 0..8 {
             let j = 8 * k + m;

@@ -1,4 +1,5 @@
 // Both powers of a message in one pass over its bits: neither sum waits for the other.
+use crate::length::is_message;
 use crate::norms::bit_of;
 use crate::norms::empty_norm;
 use crate::norms::pulse_norm;
@@ -12,7 +13,7 @@ pub struct Powers {
     pub noise: f32,
 }
 
-// Prompt power from the 224 symbols of a place, noise power from its 896 samples. Refused: 2 another length.
+// Of a message of 7 or 14 bytes: prompt power from the 16 symbols of each byte, noise power from its 64 samples. Refused: 2 another length.
 pub fn postdecode_powers(symbols: &[f32], samples: &[f32], message: &[u8]) -> Powers
     ensures { λ r. ⌜ r ≡ powersAt (now (symbols .entry)) (now (samples .entry)) (now (message .entry)) ⌝ }
 {
@@ -21,18 +22,19 @@ pub fn postdecode_powers(symbols: &[f32], samples: &[f32], message: &[u8]) -> Po
         prompt: 0.0,
         noise: 0.0,
     };
-    if symbols.len() != 448 {
+    let n = message.len();
+    if !is_message(n) {
         return refused;
     }
-    if samples.len() != 1792 {
+    if symbols.len() != 32 * n {
         return refused;
     }
-    if message.len() != 14 {
+    if samples.len() != 128 * n {
         return refused;
     }
     let mut prompt: f32 = 0.0;
     let mut noise: f32 = 0.0;
-    for k in 0..14 {
+    for k in 0..message.len() {
         let byte = message[k];
         for m in 0..8 {
             let j = 8 * k + m;

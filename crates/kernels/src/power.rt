@@ -1,4 +1,5 @@
 // The power of a message, and of the noise beside it.
+use crate::length::is_message;
 use crate::norms::bit_of;
 use crate::norms::empty_norm;
 use crate::norms::pulse_norm;
@@ -45,10 +46,11 @@ fn empty_power(samples: &[f32], message: &[u8]) -> f32
 pub fn postdecode_power(symbols: &[f32], message: &[u8]) -> Power
     ensures { λ r. ⌜ powerTold r ≡ powerAt (now (symbols .entry)) (now (message .entry)) ⌝ }
 {
-    if symbols.len() != 448 {
+    let n = message.len();
+    if !is_message(n) {
         return Power::Refused(2);
     }
-    if message.len() != 14 {
+    if symbols.len() != 32 * n {
         return Power::Refused(2);
     }
     Power::Is(pulse_power(symbols, message))
@@ -57,10 +59,11 @@ pub fn postdecode_power(symbols: &[f32], message: &[u8]) -> Power
 pub fn postdecode_noise_power(samples: &[f32], message: &[u8]) -> Power
     ensures { λ r. ⌜ powerTold r ≡ noisePowerAt (now (samples .entry)) (now (message .entry)) ⌝ }
 {
-    if samples.len() != 1792 {
+    let n = message.len();
+    if !is_message(n) {
         return Power::Refused(2);
     }
-    if message.len() != 14 {
+    if samples.len() != 128 * n {
         return Power::Refused(2);
     }
     Power::Is(empty_power(samples, message))

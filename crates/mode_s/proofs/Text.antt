@@ -1,18 +1,15 @@
 -- The bytes of an AVR line, one by one.
 -- Assumes nothing.
 use mathlib.Core.Path.{_≡_, refl, sym, ap, _∙_}
-use mathlib.Core.Bool.{Bool, true, false, _||_}
 use mathlib.Core.List.{List, [], _∷_, _++_}
 use mathlib.Core.Logic.{_≢_}
-use Prim.Native.Nat.{ℕ, zero, suc, _+_, _-_, _*_, _/_, _%_, _<_, _≤_}
+use Prim.Native.Nat.{ℕ, zero, suc, _+_, _-_, _*_, _/_, _%_, _<_}
 use native.Mathlib.Omega.{arith}
-use borrow.Author.Tests.{eqb-true}
-use lib.Dec.{eqb}
 use lib.ListN.{length, getD, length-append, List·getD-append}
 use lib.Seq.{getD-append-add}
 use Rattle.lists.specs.From.{from, tabulate}
 use Rattle.lists.proofs.Table.{tabulate-is}
-use Rattle.mode_s.specs.Avr.{hexDigit, hexText, avrText, messageLength}
+use Rattle.mode_s.specs.Avr.{hexDigit, hexText, avrText}
 use Rattle.mode_s.specs.Inner.{avrByte}
 
 -- the digits of 0 to 15 are those of 0123456789ABCDEF
@@ -84,12 +81,3 @@ avr-low m i n h e =
 pub avr-whole : (m : List ℕ) → tabulate (2 * length m + 2) (avrByte m) ≡ avrText m
 unfolding avrByte
 avr-whole m = sym (tabulate-is 0 (avrByte m) (2 * length m + 2) (avrText m) (length-avr m) (λ k h. refl))
-
--- a message has at most 14 bytes
-pub message-small : (n : ℕ) → messageLength n ≡ true → n ≤ 14
-unfolding messageLength
-message-small n e = go (eqb n 7) refl e
-  where
-    go : (b : Bool) → eqb n 7 ≡ b → (b || eqb n 14) ≡ true → n ≤ 14
-    go true q e = omega (arith, eqb-true n 7 q)
-    go false q e = omega (arith, eqb-true n 14 e)

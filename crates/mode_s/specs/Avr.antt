@@ -1,10 +1,11 @@
 -- An AVR line: `*`, the hex digits of a message of 7 or 14 bytes, `;`.
 -- Assumes nothing.
-use mathlib.Core.Bool.{Bool, cond, _||_}
+use mathlib.Core.Bool.{cond}
 use mathlib.Core.List.{List, [], _∷_, _++_}
 use Prim.Native.Nat.{ℕ, _+_, _-_, _*_, _/_, _%_}
 use lib.Dec.{eqb, ltb}
 use lib.ListN.{length}
+use Rattle.annex10.specs.Length.{messageLength}
 
 -- a number below 16 as a capital hex digit: 48 is `0`, 65 is `A`
 unfoldable pub hexDigit : ℕ → ℕ
@@ -18,10 +19,6 @@ hexText (x ∷ xs) = hexDigit (x / 16) ∷ hexDigit (x % 16) ∷ hexText xs
 -- 42 is `*`, 59 is `;`
 unfoldable pub avrText : List ℕ → List ℕ
 avrText m = 42 ∷ (hexText m ++ (59 ∷ []))
-
--- a message has 7 bytes or 14
-unfoldable pub messageLength : ℕ → Bool
-messageLength n = eqb n 7 || eqb n 14
 
 -- what is answered, and what the output is afterwards: 2 where it is no message, 3 where the output is not as long as the line
 unfoldable pub avrLine : List ℕ → List ℕ → ℕ × List ℕ

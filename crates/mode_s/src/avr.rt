@@ -1,8 +1,9 @@
 // A message as an AVR line: `*`, its capital hex digits, `;`.
+use crate::length::is_message;
 ghost use mathlib.Core.Path.{_≡_};
 ghost use Prim.Native.Nat.{_+_, _*_, _/_, _%_, _<_};
 ghost use lib.ListN.{length};
-ghost use Rattle.mode_s.specs.Avr.{hexDigit, messageLength, avrLine};
+ghost use Rattle.mode_s.specs.Avr.{hexDigit, avrLine};
 ghost use Rattle.mode_s.specs.Inner.{avrByte};
 
 // A number below 16 as a capital hex digit.
@@ -43,15 +44,6 @@ fn avr_byte(message: &[u8], i: usize) -> u8
     } else {
         low_digit(message[k])
     }
-}
-
-fn is_message(n: usize) -> bool
-    ensures { λ r. ⌜ r ≡ messageLength n ⌝ }
-{
-    if n == 7 {
-        return true;
-    }
-    n == 14
 }
 
 // Writes the line of a message of 7 or 14 bytes. Refused: 2 another length, 3 an output that is not exactly as long as the line.

@@ -3,10 +3,12 @@ use crate::inside::lie_inside;
 use annex10::AddressKind;
 use annex10::Repairs;
 ghost use mathlib.Core.Path.{_≡_};
+ghost use mathlib.Core.Bool.{cond};
 ghost use Prim.Native.Nat.{_<_};
+ghost use Rattle.lists.specs.Told.{tell};
 ghost use Rattle.annex10.specs.Address.{byCapability, byControl, addressKind};
-ghost use Rattle.annex10.specs.Header.{longHeader};
-ghost use Rattle.annex10.specs.Repair.{repairedHead};
+ghost use Rattle.annex10.specs.Header.{longHeader, shortHeader};
+ghost use Rattle.annex10.specs.Repair.{inside, repairedHead};
 ghost use Rattle.mode_s.specs.Header.{validityTold, headerOf};
 ghost use Rattle.mode_s.specs.Inner.{zeroOrWithin, headFlip};
 
@@ -45,6 +47,18 @@ fn is_long(first: u8) -> bool
     false
 }
 
+// Whether a first byte is that of an acquisition squitter.
+fn is_short(first: u8) -> bool
+    ensures { λ r. ⌜ r ≡ shortHeader first ⌝ }
+{
+    let format = first / 8;
+    let code = first % 8;
+    if format == 11 {
+        return is_zero_or_within(code, 4, 7);
+    }
+    false
+}
+
 // The first byte with the bit at j turned over, if it lies there.
 fn flip_head(first: u8, j: u8) -> u8
     ensures { λ r. ⌜ r ≡ headFlip first j ⌝ }
@@ -66,17 +80,32 @@ fn head(first: u8, repairs: Repairs) -> u8
     }
 }
 
+// What a check of a message of so many bytes answers where its repaired first byte is taken, or not.
+fn check(bytes: usize, repairs: Repairs, taken: bool) -> Validity
+    requires { ⌜ bytes < 32 ⌝ }
+    ensures { λ r. ⌜ validityTold r ≡ tell (cond (inside bytes repairs) 0 8) taken ⌝ }
+{
+    if !lie_inside(bytes, repairs) {
+        return Validity::Refused(8);
+    }
+    if taken {
+        return Validity::Valid;
+    }
+    Validity::Invalid
+}
+
 // Whether the first byte of a 14-byte message, repaired, is that of an extended squitter. A position above 111 is refused with 8.
 pub fn header_is_valid(first: u8, repairs: Repairs) -> Validity
     ensures { λ r. ⌜ validityTold r ≡ headerOf 14 longHeader first repairs ⌝ }
 {
-    if !lie_inside(14, repairs) {
-        return Validity::Refused(8);
-    }
-    if is_long(head(first, repairs)) {
-        return Validity::Valid;
-    }
-    Validity::Invalid
+    check(14, repairs, is_long(head(first, repairs)))
+}
+
+// Whether the first byte of a 7-byte message, repaired, is that of an acquisition squitter. A position above 55 is refused with 8.
+pub fn header_is_valid_short(first: u8, repairs: Repairs) -> Validity
+    ensures { λ r. ⌜ validityTold r ≡ headerOf 7 shortHeader first repairs ⌝ }
+{
+    check(7, repairs, is_short(head(first, repairs)))
 }
 
 fn by_capability(code: u8) -> AddressKind
@@ -109,6 +138,9 @@ pub fn address_kind(first: u8) -> AddressKind
 {
     let format = first / 8;
     let code = first % 8;
+    if format == 11 {
+        return by_capability(code);
+    }
     if format == 17 {
         return by_capability(code);
     }

@@ -5,15 +5,15 @@ ghost use Prim.Native.Nat.{_*_, _<_};
 ghost use lib.Dec.{ltb};
 ghost use Rattle.annex10.specs.Repair.{inside};
 
-fn lies_inside(bytes: u8, j: u8) -> bool
+fn lies_inside(bytes: usize, j: u8) -> bool
     requires { ⌜ bytes < 32 ⌝ }
     ensures { λ r. ⌜ r ≡ ltb j (8 * bytes) ⌝ }
 {
-    j < 8 * bytes
+    (j as usize) < 8 * bytes
 }
 
 // Whether the positions are those of so many bytes.
-pub fn lie_inside(bytes: u8, repairs: Repairs) -> bool
+pub fn lie_inside(bytes: usize, repairs: Repairs) -> bool
     requires { ⌜ bytes < 32 ⌝ }
     ensures { λ r. ⌜ r ≡ inside bytes repairs ⌝ }
 {

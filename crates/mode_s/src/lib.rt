@@ -4,5 +4,6 @@ pub mod bytes;
 pub mod crc;
 pub mod header;
 mod inside;
+mod length;
 pub mod message;
 pub mod repair;

@@ -1,5 +1,6 @@
 // A message repaired in place.
 use crate::inside::lie_inside;
+use crate::length::is_message;
 use annex10::Repairs;
 ghost use mathlib.Core.Path.{_≡_};
 ghost use Rattle.annex10.specs.Flip.{flip};
@@ -29,14 +30,16 @@ fn turn_all(message: &mut [u8], repairs: Repairs)
     }
 }
 
-// Turns the named positions of a 14-byte message over. Refused: 2 another length, 8 a position above 111.
+// Turns the named positions of a message of 7 or 14 bytes over. Refused: 2 another length, 8 a position outside the message: above 55,
+// above 111.
 pub fn correct_message_bit_errors(message: &mut [u8], repairs: Repairs) -> u32
-    ensures { λ r. ⌜ (r, now (message .exit)) ≡ corrected 14 repairs (now (message .entry)) ⌝ }
+    ensures { λ r. ⌜ (r, now (message .exit)) ≡ corrected repairs (now (message .entry)) ⌝ }
 {
-    if message.len() != 14 {
+    let n = message.len();
+    if !is_message(n) {
         return 2;
     }
-    if !lie_inside(14, repairs) {
+    if !lie_inside(n, repairs) {
         return 8;
     }
     turn_all(message, repairs);

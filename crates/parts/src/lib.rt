@@ -1,8 +1,10 @@
 // Parts for a place, lent from what the caller lends. A part that is refused is empty; beside each part stands its refusal's number.
+// The functions named `short` are for messages of 7 bytes, the others for those of 14.
 use place::Place;
 use place::Slicer;
 ghost use mathlib.Core.Path.{_≡_};
-ghost use Rattle.parts.specs.Part.{rowRefusal, symbolsFor, samplesFor, streamsRefusal, partSize, sizeTold, sizeAt, slicerPart};
+ghost use Prim.Native.Nat.{_≤_};
+ghost use Rattle.parts.specs.Part.{refusalOf, rowRefusal, symbolsFor, samplesFor, refusalTo, streamsRefusal, partSize, sizeTold, sizeTo, sizeAt, slicerPart};
 
 // How many bytes, or the refusal's number.
 pub enum PartSize {
@@ -10,62 +12,105 @@ pub enum PartSize {
     Refused(u32),
 }
 
-// The row of symbols of one clock phase: 288 symbols, two numbers each.
-pub fn symbols_refusal(row: &[f32], place: Place) -> u32
-    ensures { λ r. ⌜ r ≡ rowRefusal 576 14 (now (row .entry)) place ⌝ }
+// So many numbers, and whether the message ends within the window.
+fn refusal_of(numbers: &[f32], size: usize, ends: bool) -> u32
+    ensures { λ r. ⌜ r ≡ refusalOf size ends (now (numbers .entry)) ⌝ }
 {
-    if row.len() != 576 {
+    if numbers.len() != size {
         return 2;
     }
-    if !place.is_within() {
+    if !ends {
         return 7;
     }
     0
 }
 
-// The 224 symbols of a message, from its symbol start.
-pub fn symbols_for_place(row: &[f32], place: Place) -> &[f32]
-    ensures { λ r. ⌜ now r ≡ symbolsFor 14 (now (row .entry)) place ⌝ }
+// The row of symbols of one clock phase: 288 symbols, two numbers each.
+pub fn symbols_refusal(row: &[f32], place: Place) -> u32
+    ensures { λ r. ⌜ r ≡ rowRefusal 576 14 (now (row .entry)) place ⌝ }
+{
+    refusal_of(row, 576, place.is_within())
+}
+
+pub fn symbols_refusal_short(row: &[f32], place: Place) -> u32
+    ensures { λ r. ⌜ r ≡ rowRefusal 576 7 (now (row .entry)) place ⌝ }
+{
+    refusal_of(row, 576, place.is_within_short())
+}
+
+// The symbols of a message of so many bytes, from its symbol start.
+fn symbols_of(row: &[f32], place: Place, bytes: usize, number: u32) -> &[f32]
+    requires { ⌜ (bytes ≤ 18) × (number ≡ rowRefusal 576 bytes (now row) place) ⌝ }
+    ensures { λ r. ⌜ now r ≡ symbolsFor bytes (now (row .entry)) place ⌝ }
 {
     let bit = place.bit;
     let symbol = place.symbol;
-    if symbols_refusal(row, place) != 0 {
+    if number != 0 {
         return &row[..0];
     }
     let from = 2 * (2 * bit + symbol);
-    &row[from..from + 448]
+    &row[from..from + 32 * bytes]
+}
+
+// The 224 symbols of a message.
+pub fn symbols_for_place(row: &[f32], place: Place) -> &[f32]
+    ensures { λ r. ⌜ now r ≡ symbolsFor 14 (now (row .entry)) place ⌝ }
+{
+    symbols_of(row, place, 14, symbols_refusal(row, place))
+}
+
+// The 112 symbols of a short message.
+pub fn symbols_for_place_short(row: &[f32], place: Place) -> &[f32]
+    ensures { λ r. ⌜ now r ≡ symbolsFor 7 (now (row .entry)) place ⌝ }
+{
+    symbols_of(row, place, 7, symbols_refusal_short(row, place))
 }
 
 // The window: 1,155 samples, two numbers each.
 pub fn samples_refusal(window: &[f32], place: Place) -> u32
     ensures { λ r. ⌜ r ≡ rowRefusal 2310 14 (now (window .entry)) place ⌝ }
 {
-    if window.len() != 2310 {
-        return 2;
-    }
-    if !place.is_within() {
-        return 7;
-    }
-    0
+    refusal_of(window, 2310, place.is_within())
 }
 
-// The 896 samples of a message, from its sample start.
-pub fn samples_for_place(window: &[f32], place: Place) -> &[f32]
-    ensures { λ r. ⌜ now r ≡ samplesFor 14 (now (window .entry)) place ⌝ }
+pub fn samples_refusal_short(window: &[f32], place: Place) -> u32
+    ensures { λ r. ⌜ r ≡ rowRefusal 2310 7 (now (window .entry)) place ⌝ }
+{
+    refusal_of(window, 2310, place.is_within_short())
+}
+
+// The samples of a message of so many bytes, from its sample start.
+fn samples_of(window: &[f32], place: Place, bytes: usize, number: u32) -> &[f32]
+    requires { ⌜ (bytes ≤ 18) × (number ≡ rowRefusal 2310 bytes (now window) place) ⌝ }
+    ensures { λ r. ⌜ now r ≡ samplesFor bytes (now (window .entry)) place ⌝ }
 {
     let bit = place.bit;
     let phase = place.phase;
     let symbol = place.symbol;
-    if samples_refusal(window, place) != 0 {
+    if number != 0 {
         return &window[..0];
     }
     let from = 2 * (4 * (2 * bit + symbol) + phase);
-    &window[from..from + 1792]
+    &window[from..from + 128 * bytes]
+}
+
+// The 896 samples of a message.
+pub fn samples_for_place(window: &[f32], place: Place) -> &[f32]
+    ensures { λ r. ⌜ now r ≡ samplesFor 14 (now (window .entry)) place ⌝ }
+{
+    samples_of(window, place, 14, samples_refusal(window, place))
+}
+
+// The 448 samples of a short message.
+pub fn samples_for_place_short(window: &[f32], place: Place) -> &[f32]
+    ensures { λ r. ⌜ now r ≡ samplesFor 7 (now (window .entry)) place ⌝ }
+{
+    samples_of(window, place, 7, samples_refusal_short(window, place))
 }
 
 // The two streams of 18 bytes, and the bit offset in them.
-pub fn slicer_refusal(coherent: &[u8], noncoherent: &[u8], bit: usize) -> u32
-    ensures { λ r. ⌜ r ≡ streamsRefusal 14 (now (coherent .entry)) (now (noncoherent .entry)) bit ⌝ }
+fn refusal_to(last: usize, coherent: &[u8], noncoherent: &[u8], bit: usize) -> u32
+    ensures { λ r. ⌜ r ≡ refusalTo last (now (coherent .entry)) (now (noncoherent .entry)) bit ⌝ }
 {
     if coherent.len() != 18 {
         return 2;
@@ -73,30 +118,80 @@ pub fn slicer_refusal(coherent: &[u8], noncoherent: &[u8], bit: usize) -> u32
     if noncoherent.len() != 18 {
         return 2;
     }
-    if bit > Place::BIT_MAX {
+    if bit > last {
         return 7;
     }
     0
 }
 
-// How many bytes hold the 112 bits from a bit offset on.
-fn bytes_from(bit: usize) -> usize
-    ensures { λ r. ⌜ r ≡ partSize 14 bit ⌝ }
+pub fn slicer_refusal(coherent: &[u8], noncoherent: &[u8], bit: usize) -> u32
+    ensures { λ r. ⌜ r ≡ streamsRefusal 14 (now (coherent .entry)) (now (noncoherent .entry)) bit ⌝ }
 {
-    if bit % 8 == 0 { 14 } else { 15 }
+    refusal_to(Place::BIT_MAX, coherent, noncoherent, bit)
+}
+
+pub fn slicer_refusal_short(coherent: &[u8], noncoherent: &[u8], bit: usize) -> u32
+    ensures { λ r. ⌜ r ≡ streamsRefusal 7 (now (coherent .entry)) (now (noncoherent .entry)) bit ⌝ }
+{
+    refusal_to(Place::SHORT_BIT_MAX, coherent, noncoherent, bit)
+}
+
+// How many bytes hold the bits of a message of so many bytes from a bit offset on.
+fn bytes_from(bytes: usize, bit: usize) -> usize
+    requires { ⌜ bytes ≤ 18 ⌝ }
+    ensures { λ r. ⌜ r ≡ partSize bytes bit ⌝ }
+{
+    if bit % 8 == 0 { bytes } else { bytes + 1 }
+}
+
+fn size_to(last: usize, bytes: usize, bit: usize) -> PartSize
+    requires { ⌜ bytes ≤ 18 ⌝ }
+    ensures { λ r. ⌜ sizeTold r ≡ sizeTo last bytes bit ⌝ }
+{
+    if bit > last {
+        return PartSize::Refused(7);
+    }
+    PartSize::Is(bytes_from(bytes, bit))
 }
 
 // The same for others. Refused: 7 a bit offset from which 112 bits would end behind the stream.
 pub fn part_size(bit: usize) -> PartSize
     ensures { λ r. ⌜ sizeTold r ≡ sizeAt 14 bit ⌝ }
 {
-    if bit > Place::BIT_MAX {
-        return PartSize::Refused(7);
-    }
-    PartSize::Is(bytes_from(bit))
+    size_to(Place::BIT_MAX, 14, bit)
 }
 
-// The bytes of the named slicer's stream that hold the 112 bits from a bit offset on.
+// Of 56 bits.
+pub fn part_size_short(bit: usize) -> PartSize
+    ensures { λ r. ⌜ sizeTold r ≡ sizeAt 7 bit ⌝ }
+{
+    size_to(Place::SHORT_BIT_MAX, 7, bit)
+}
+
+// The bytes of the named slicer's stream that hold the bits of a message of so many bytes from a bit offset on.
+fn part_of<'a>(
+    coherent: &'a [u8],
+    noncoherent: &'a [u8],
+    bit: usize,
+    slicer: Slicer,
+    bytes: usize,
+    number: u32,
+) -> &'a [u8]
+    requires { ⌜ (bytes ≤ 18) × (number ≡ streamsRefusal bytes (now coherent) (now noncoherent) bit) ⌝ }
+    ensures { λ r. ⌜ now r ≡ slicerPart bytes (now (coherent .entry)) (now (noncoherent .entry)) bit slicer ⌝ }
+{
+    if number != 0 {
+        return &coherent[..0];
+    }
+    let from = bit / 8;
+    let to = from + bytes_from(bytes, bit);
+    match slicer {
+        Slicer::Coherent => &coherent[from..to],
+        Slicer::Noncoherent => &noncoherent[from..to],
+    }
+}
+
+// Of 112 bits.
 pub fn slicer_part<'a>(
     coherent: &'a [u8],
     noncoherent: &'a [u8],
@@ -105,13 +200,31 @@ pub fn slicer_part<'a>(
 ) -> &'a [u8]
     ensures { λ r. ⌜ now r ≡ slicerPart 14 (now (coherent .entry)) (now (noncoherent .entry)) bit slicer ⌝ }
 {
-    if slicer_refusal(coherent, noncoherent, bit) != 0 {
-        return &coherent[..0];
-    }
-    let from = bit / 8;
-    let to = from + bytes_from(bit);
-    match slicer {
-        Slicer::Coherent => &coherent[from..to],
-        Slicer::Noncoherent => &noncoherent[from..to],
-    }
+    part_of(
+        coherent,
+        noncoherent,
+        bit,
+        slicer,
+        14,
+        slicer_refusal(coherent, noncoherent, bit),
+    )
+}
+
+// Of 56 bits.
+pub fn slicer_part_short<'a>(
+    coherent: &'a [u8],
+    noncoherent: &'a [u8],
+    bit: usize,
+    slicer: Slicer,
+) -> &'a [u8]
+    ensures { λ r. ⌜ now r ≡ slicerPart 7 (now (coherent .entry)) (now (noncoherent .entry)) bit slicer ⌝ }
+{
+    part_of(
+        coherent,
+        noncoherent,
+        bit,
+        slicer,
+        7,
+        slicer_refusal_short(coherent, noncoherent, bit),
+    )
 }

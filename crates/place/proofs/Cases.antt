@@ -27,6 +27,12 @@ cases =
     ∷ record { found = laterOf 14 (at 32 0 1); said = refused 7 }
     ∷ record { found = earlierOf 14 (at 5 4 0); said = refused 7 }
     ∷ record { found = laterOf 7 (at 32 3 0); said = done (at 32 0 1) }
+    ∷ record { found = laterOf 7 (at 87 3 1); said = done (at 88 0 0) }
+    ∷ record { found = laterOf 7 (at 88 2 0); said = done (at 88 3 0) }
+    ∷ record { found = laterOf 7 (at 88 3 0); said = refused 7 }
+    ∷ record { found = laterOf 7 (at 88 0 1); said = refused 7 }
+    ∷ record { found = earlierOf 7 (at 1 0 0); said = done (at 0 3 1) }
+    ∷ record { found = earlierOf 7 (at 0 0 0); said = refused 7 }
     ∷ []
 
 pub cases-hold : map (λ (c : Case). c .found) cases ≡ map (λ (c : Case). c .said) cases

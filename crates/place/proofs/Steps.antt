@@ -1,5 +1,6 @@
 -- Steps of a place.
 --     starting-is                    a place is the one that starts with its own sample
+--     earlier-by, later-by           a neighbour, by the sample that it starts with
 --     later-to, earlier-to           a step that is not refused
 --     later-start, earlier-start     it starts one sample later, and one earlier
 --     earlier-later, later-earlier   a step back undoes a step on, and the other way
@@ -10,13 +11,13 @@ use mathlib.Core.Bool.{Bool, true, false, cond}
 use Prim.Native.Nat.{ℕ, _+_, _-_, _*_, _/_, _%_, _<_, _≤_}
 use native.Mathlib.Omega.{arith}
 use lib.Dec.{ltb}
-use borrow.Author.Tests.{lt-ltb, le-ltb, ltb-true}
+use borrow.Author.Tests.{lt-ltb, ltb-true}
 use Rattle.lists.specs.Told.{done, refused}
 use Rattle.lists.proofs.Telling.{same-values, not-done}
 use Rattle.place.specs.declared.Place.{Place}
-use Rattle.place.specs.Step.{sampleStart, lastSymbol, within, startingAt, earlierOf, laterOf}
+use Rattle.place.specs.Step.{sampleStart, lastSymbol, startingAt, startsBy, earlierBy, laterBy, earlierOf, laterOf}
 use Rattle.place.specs.All.{listed}
-use Rattle.place.proofs.Within.{Within, within-gives, within-is, listed-gives}
+use Rattle.place.proofs.Within.{Starts, starts-gives, starts-is, Within, listed-gives}
 
 last-digit : (q b y : ℕ) → q ≡ 2 * b + y → y ≤ 1 → q % 2 ≡ y
 last-digit q b y e h = omega arith
@@ -42,37 +43,24 @@ pub starting-within : (n s : ℕ) → s ≤ 4 * lastSymbol n + 3 → Within n (s
 unfolding startingAt
 starting-within n s h = record { phase = omega arith; symbol = omega arith; start = omega arith }
 
-module _ (n : ℕ) (p : Place) where
-  pub refused-earlier : within n p ≡ false → earlierOf n p ≡ refused 7
-  unfolding earlierOf
-  refused-earlier e = rw e
-
-  pub refused-later : within n p ≡ false → laterOf n p ≡ refused 7
-  unfolding laterOf
-  refused-later e = rw e
-
-  pub earlier-to : Within n p → 0 < sampleStart p → earlierOf n p ≡ done (startingAt (sampleStart p - 1))
-  unfolding earlierOf
-  earlier-to w h = rw (within-is n p w, lt-ltb 0 (sampleStart p) h)
-
-  pub earlier-end : Within n p → sampleStart p ≡ 0 → earlierOf n p ≡ refused 7
-  unfolding earlierOf
-  earlier-end w e = rw (within-is n p w, le-ltb 0 (sampleStart p) (omega arith))
-
-  pub later-to : Within n p → sampleStart p < 4 * lastSymbol n + 3 → laterOf n p ≡ done (startingAt (sampleStart p + 1))
-  unfolding laterOf
-  later-to w h = rw (within-is n p w, lt-ltb _ _ h)
-
-  pub later-end : Within n p → 4 * lastSymbol n + 3 ≤ sampleStart p → laterOf n p ≡ refused 7
-  unfolding laterOf
-  later-end w h = rw (within-is n p w, le-ltb _ _ h)
-
 -- a neighbour, by the sample that it starts with
-pub earlier-by : (n : ℕ) (p q : Place) → Within n p → 0 < sampleStart p → q .phase ≤ 3 → q .symbol ≤ 1 → sampleStart q + 1 ≡ sampleStart p → done q ≡ earlierOf n p
-earlier-by n p q w h hk hy e = sym (earlier-to n p w h ∙ ap done (starting-is (sampleStart p - 1) hk hy (omega arith)))
+module _ (last : ℕ) (p q : Place) (w : Starts last p) (hk : q .phase ≤ 3) (hy : q .symbol ≤ 1) where
+  pub earlier-by : sampleStart q + 1 ≡ sampleStart p → done q ≡ earlierBy last p
+  earlier-by e =
+      rw (starts-is last p w, lt-ltb 0 (sampleStart p) (omega arith)) (ap done (sym (starting-is (sampleStart p - 1) hk hy (omega arith))))
 
-pub later-by : (n : ℕ) (p q : Place) → Within n p → sampleStart p < 4 * lastSymbol n + 3 → q .phase ≤ 3 → q .symbol ≤ 1 → sampleStart q ≡ sampleStart p + 1 → done q ≡ laterOf n p
-later-by n p q w h hk hy e = sym (later-to n p w h ∙ ap done (starting-is (sampleStart p + 1) hk hy (sym e)))
+  pub later-by : sampleStart p < 4 * last + 3 → sampleStart q ≡ sampleStart p + 1 → done q ≡ laterBy last p
+  later-by h e = rw (starts-is last p w, lt-ltb _ _ h) (ap done (sym (starting-is (sampleStart p + 1) hk hy (sym e))))
+
+-- a step that is not refused
+module _ (n : ℕ) (p : Place) (w : Within n p) where
+  pub earlier-to : 0 < sampleStart p → earlierOf n p ≡ done (startingAt (sampleStart p - 1))
+  unfolding earlierOf
+  earlier-to h = rw (starts-is (lastSymbol n) p w, lt-ltb 0 (sampleStart p) h)
+
+  pub later-to : sampleStart p < 4 * lastSymbol n + 3 → laterOf n p ≡ done (startingAt (sampleStart p + 1))
+  unfolding laterOf
+  later-to h = rw (starts-is (lastSymbol n) p w, lt-ltb _ _ h)
 
 -- what a step that was not refused says
 pub record Stood (n : ℕ) (p q : Place) (s : ℕ) (P : Type 0) : Type 0 where
@@ -82,25 +70,25 @@ pub record Stood (n : ℕ) (p q : Place) (s : ℕ) (P : Type 0) : Type 0 where
 
 pub later-stood : (n : ℕ) (p q : Place) → laterOf n p ≡ done q → Stood n p q (sampleStart p + 1) (sampleStart p < 4 * lastSymbol n + 3)
 unfolding laterOf
-later-stood n p q = go (within n p) (ltb (sampleStart p) (4 * lastSymbol n + 3)) refl refl
+later-stood n p q = go (startsBy (lastSymbol n) p) (ltb (sampleStart p) (4 * lastSymbol n + 3)) refl refl
   where
-    go : (a b : Bool) → within n p ≡ a → ltb (sampleStart p) (4 * lastSymbol n + 3) ≡ b
+    go : (a b : Bool) → startsBy (lastSymbol n) p ≡ a → ltb (sampleStart p) (4 * lastSymbol n + 3) ≡ b
         → cond a (cond b (done (startingAt (sampleStart p + 1))) (refused 7)) (refused 7) ≡ done q
         → Stood n p q (sampleStart p + 1) (sampleStart p < 4 * lastSymbol n + 3)
     go false b e f g = absurd (not-done g)
     go true false e f g = absurd (not-done g)
-    go true true e f g = record { within = within-gives n p e; room = ltb-true _ _ f; is = sym (same-values g) }
+    go true true e f g = record { within = starts-gives (lastSymbol n) p e; room = ltb-true _ _ f; is = sym (same-values g) }
 
 pub earlier-stood : (n : ℕ) (p q : Place) → earlierOf n p ≡ done q → Stood n p q (sampleStart p - 1) (0 < sampleStart p)
 unfolding earlierOf
-earlier-stood n p q = go (within n p) (ltb 0 (sampleStart p)) refl refl
+earlier-stood n p q = go (startsBy (lastSymbol n) p) (ltb 0 (sampleStart p)) refl refl
   where
-    go : (a b : Bool) → within n p ≡ a → ltb 0 (sampleStart p) ≡ b
+    go : (a b : Bool) → startsBy (lastSymbol n) p ≡ a → ltb 0 (sampleStart p) ≡ b
         → cond a (cond b (done (startingAt (sampleStart p - 1))) (refused 7)) (refused 7) ≡ done q
         → Stood n p q (sampleStart p - 1) (0 < sampleStart p)
     go false b e f g = absurd (not-done g)
     go true false e f g = absurd (not-done g)
-    go true true e f g = record { within = within-gives n p e; room = ltb-true _ _ f; is = sym (same-values g) }
+    go true true e f g = record { within = starts-gives (lastSymbol n) p e; room = ltb-true _ _ f; is = sym (same-values g) }
 
 pub later-start : (n : ℕ) (p q : Place) → laterOf n p ≡ done q → sampleStart q ≡ sampleStart p + 1
 later-start n p q e = let s = later-stood n p q e in ap sampleStart (s .is) ∙ start-of (sampleStart p + 1)

@@ -25,6 +25,10 @@ allPlaces m =
 unfoldable pub placeAt : ℕ → Place
 placeAt k = record { bit = 1 + k / 8; phase = k / 2 % 4; symbol = k % 2 }
 
--- the same if there are so many: 8 for each bit offset
+-- the same if there are so many
+abbrev pub placeBelow : ℕ → ℕ → Told Place
+placeBelow count k = cond (ltb k count) (done (placeAt k)) (refused 7)
+
+-- 8 for each bit offset
 unfoldable pub listedAt : ℕ → ℕ → Told Place
-listedAt m k = cond (ltb k (8 * m)) (done (placeAt k)) (refused 7)
+listedAt m k = placeBelow (8 * m) k

@@ -17,13 +17,17 @@ symbolStart p = 2 * p .bit + p .symbol
 abbrev pub sampleStart : Place → ℕ
 sampleStart p = 4 * symbolStart p + p .phase
 
--- the last symbol that a message of n bytes can start with: 64 for 14 bytes
+-- the last symbol that a message of n bytes can start with: 64 for 14 bytes, 176 for 7
 abbrev pub lastSymbol : ℕ → ℕ
 lastSymbol n = 288 - 16 * n
 
+-- it starts with the symbol `last` or before
+abbrev pub startsBy : ℕ → Place → Bool
+startsBy last p = leb (p .phase) 3 && leb (p .symbol) 1 && leb (symbolStart p) last
+
 -- a message of n bytes at the place ends within the window
 unfoldable pub within : ℕ → Place → Bool
-within n p = leb (p .phase) 3 && leb (p .symbol) 1 && leb (symbolStart p) (lastSymbol n)
+within n p = startsBy (lastSymbol n) p
 
 -- the place that starts with sample s: 8 samples are a bit, 4 a symbol
 unfoldable pub startingAt : ℕ → Place
@@ -35,13 +39,20 @@ steppedTold (To p) = done p
 steppedTold (Refused n) = refused n
 
 -- one sample earlier; there is none before sample 0
-unfoldable pub earlierOf : ℕ → Place → Told Place
-earlierOf n p =
-    cond (within n p) (cond (ltb 0 (sampleStart p)) (done (startingAt (sampleStart p - 1))) (refused 7)) (refused 7)
+abbrev pub earlierBy : ℕ → Place → Told Place
+earlierBy last p =
+    cond (startsBy last p) (cond (ltb 0 (sampleStart p)) (done (startingAt (sampleStart p - 1))) (refused 7)) (refused 7)
 
 -- one sample later; there is none after clock phase 3 of the last symbol
-unfoldable pub laterOf : ℕ → Place → Told Place
-laterOf n p =
-    cond (within n p)
-    (cond (ltb (sampleStart p) (4 * lastSymbol n + 3)) (done (startingAt (sampleStart p + 1))) (refused 7))
+abbrev pub laterBy : ℕ → Place → Told Place
+laterBy last p =
+    cond (startsBy last p)
+    (cond (ltb (sampleStart p) (4 * last + 3)) (done (startingAt (sampleStart p + 1))) (refused 7))
     (refused 7)
+
+-- the same for a message of n bytes
+unfoldable pub earlierOf : ℕ → Place → Told Place
+earlierOf n p = earlierBy (lastSymbol n) p
+
+unfoldable pub laterOf : ℕ → Place → Told Place
+laterOf n p = laterBy (lastSymbol n) p

@@ -1,7 +1,7 @@
 // Where a reading lies in a window, and who read its bits.
 ghost use mathlib.Core.Path.{_≡_};
-ghost use Rattle.place.specs.Step.{within, steppedTold, earlierOf, laterOf};
-ghost use Rattle.place.specs.All.{listed, listedAt};
+ghost use Rattle.place.specs.Step.{startsBy, within, steppedTold, earlierBy, laterBy, earlierOf, laterOf};
+ghost use Rattle.place.specs.All.{listed, placeBelow, listedAt};
 
 // Who made bits of symbols: by real part, or by norm.
 pub enum Slicer {
@@ -23,14 +23,18 @@ pub enum Stepped {
 }
 
 impl Place {
-    // The greatest offsets and the greatest symbol start at which a message of 14 bytes ends within the window.
+    // The greatest offsets and the greatest symbol start at which a message of 14 bytes ends within the window, and one of 7 bytes.
     pub const BIT_MAX: usize = 32;
+
+    pub const SHORT_BIT_MAX: usize = 88;
 
     pub const PHASE_MAX: usize = 3;
 
     pub const SYMBOL_MAX: usize = 1;
 
     pub const START_MAX: usize = 64;
+
+    pub const SHORT_START_MAX: usize = 176;
 
     // How many clock phases there are; how many places of one clock phase of a bit offset, and of one bit offset.
     pub const PHASES: usize = Place::PHASE_MAX + 1;
@@ -54,11 +58,23 @@ impl Place {
         symbol: 1,
     };
 
-    // Number k of the places that are searched, counted from 0. Refused: 7 from COUNT on.
-    pub fn at(k: usize) -> Stepped
-        ensures { λ r. ⌜ steppedTold r ≡ listedAt 31 k ⌝ }
+    // The same for short messages.
+    pub const SHORT_COUNT: usize = (Place::SHORT_LAST.bit - Place::SHORT_FIRST.bit + 1)
+        * Place::PER_BIT;
+
+    pub const SHORT_FIRST: Place = Place::FIRST;
+
+    pub const SHORT_LAST: Place = Place {
+        bit: 87,
+        phase: Place::LAST.phase,
+        symbol: Place::LAST.symbol,
+    };
+
+    // Number k of so many places, counted from 0.
+    fn at_below(count: usize, k: usize) -> Stepped
+        ensures { λ r. ⌜ steppedTold r ≡ placeBelow count k ⌝ }
     {
-        if k >= Place::COUNT {
+        if k >= count {
             return Stepped::Refused(7);
         }
         Stepped::To(Place {
@@ -68,15 +84,29 @@ impl Place {
         })
     }
 
-    // One of the 248 that are searched.
-    pub fn is_listed(self) -> bool
-        ensures { λ r. ⌜ r ≡ listed 31 self ⌝ }
+    // Number k of the places that are searched. Refused: 7 from COUNT on.
+    pub fn at(k: usize) -> Stepped
+        ensures { λ r. ⌜ steppedTold r ≡ listedAt 31 k ⌝ }
+    {
+        Place::at_below(Place::COUNT, k)
+    }
+
+    // Number k of those that are searched for short messages. Refused: 7 from SHORT_COUNT on.
+    pub fn at_short(k: usize) -> Stepped
+        ensures { λ r. ⌜ steppedTold r ≡ listedAt 87 k ⌝ }
+    {
+        Place::at_below(Place::SHORT_COUNT, k)
+    }
+
+    // One of those that are searched, up to the last bit offset.
+    fn listed_to(self, last: usize) -> bool
+        ensures { λ r. ⌜ r ≡ listed last self ⌝ }
     {
         let bit = self.bit;
         if bit < Place::FIRST.bit {
             return false;
         }
-        if bit > Place::LAST.bit {
+        if bit > last {
             return false;
         }
         if self.phase > Place::LAST.phase {
@@ -85,32 +115,60 @@ impl Place {
         self.symbol <= Place::LAST.symbol
     }
 
-    // The bit offset is tested first, so that the start cannot wrap.
-    pub fn is_within(self) -> bool
-        ensures { λ r. ⌜ r ≡ within 14 self ⌝ }
+    // One of the 248 that are searched.
+    pub fn is_listed(self) -> bool
+        ensures { λ r. ⌜ r ≡ listed 31 self ⌝ }
+    {
+        self.listed_to(Place::LAST.bit)
+    }
+
+    // One of the 696 that are searched for short messages.
+    pub fn is_listed_short(self) -> bool
+        ensures { λ r. ⌜ r ≡ listed 87 self ⌝ }
+    {
+        self.listed_to(Place::SHORT_LAST.bit)
+    }
+
+    // The bit offset is tested before the start, so that the start cannot wrap.
+    fn starts_by(self, last: usize) -> bool
+        ensures { λ r. ⌜ r ≡ startsBy last self ⌝ }
     {
         let bit = self.bit;
         let symbol = self.symbol;
-        if bit > Place::BIT_MAX {
-            return false;
-        }
         if self.phase > Place::PHASE_MAX {
             return false;
         }
         if symbol > Place::SYMBOL_MAX {
             return false;
         }
-        2 * bit + symbol <= Place::START_MAX
+        if bit > last / 2 {
+            return false;
+        }
+        2 * bit + symbol <= last
     }
 
-    // One clock phase back.
-    pub fn earlier(self) -> Stepped
-        ensures { λ r. ⌜ steppedTold r ≡ earlierOf 14 self ⌝ }
+    // A message of 14 bytes ends within the window.
+    pub fn is_within(self) -> bool
+        ensures { λ r. ⌜ r ≡ within 14 self ⌝ }
+    {
+        self.starts_by(Place::START_MAX)
+    }
+
+    // A message of 7 bytes ends within the window.
+    pub fn is_within_short(self) -> bool
+        ensures { λ r. ⌜ r ≡ within 7 self ⌝ }
+    {
+        self.starts_by(Place::SHORT_START_MAX)
+    }
+
+    // One clock phase back, of a place that starts with the symbol `last` or before.
+    fn earlier_by(self, last: usize) -> Stepped
+        ensures { λ r. ⌜ steppedTold r ≡ earlierBy last self ⌝ }
     {
         let bit = self.bit;
         let phase = self.phase;
         let symbol = self.symbol;
-        if !self.is_within() {
+        if !self.starts_by(last) {
             return Stepped::Refused(7);
         }
         if phase > 0 {
@@ -137,14 +195,26 @@ impl Place {
         Stepped::Refused(7)
     }
 
+    pub fn earlier(self) -> Stepped
+        ensures { λ r. ⌜ steppedTold r ≡ earlierOf 14 self ⌝ }
+    {
+        self.earlier_by(Place::START_MAX)
+    }
+
+    pub fn earlier_short(self) -> Stepped
+        ensures { λ r. ⌜ steppedTold r ≡ earlierOf 7 self ⌝ }
+    {
+        self.earlier_by(Place::SHORT_START_MAX)
+    }
+
     // One clock phase on.
-    pub fn later(self) -> Stepped
-        ensures { λ r. ⌜ steppedTold r ≡ laterOf 14 self ⌝ }
+    fn later_by(self, last: usize) -> Stepped
+        ensures { λ r. ⌜ steppedTold r ≡ laterBy last self ⌝ }
     {
         let bit = self.bit;
         let phase = self.phase;
         let symbol = self.symbol;
-        if !self.is_within() {
+        if !self.starts_by(last) {
             return Stepped::Refused(7);
         }
         if phase < Place::PHASE_MAX {
@@ -154,7 +224,7 @@ impl Place {
                 symbol,
             });
         }
-        if 2 * bit + symbol == Place::START_MAX {
+        if 2 * bit + symbol == last {
             return Stepped::Refused(7);
         }
         if symbol < Place::SYMBOL_MAX {
@@ -169,5 +239,17 @@ impl Place {
             phase: 0,
             symbol: 0,
         })
+    }
+
+    pub fn later(self) -> Stepped
+        ensures { λ r. ⌜ steppedTold r ≡ laterOf 14 self ⌝ }
+    {
+        self.later_by(Place::START_MAX)
+    }
+
+    pub fn later_short(self) -> Stepped
+        ensures { λ r. ⌜ steppedTold r ≡ laterOf 7 self ⌝ }
+    {
+        self.later_by(Place::SHORT_START_MAX)
     }
 }

@@ -10,6 +10,7 @@ use lib.Ieee.{Float}
 use Rattle.lists.specs.Bits.{asBit}
 use Rattle.lists.specs.Told.{Told, refused, andThen}
 use Rattle.floats.specs.Numbers.{zeroF}
+use Rattle.annex10.specs.Header.{longHeader}
 use Rattle.annex10.specs.declared.Repairs.{Repairs}
 use Rattle.annex10.specs.declared.Repairs.the-variants.{None, One, Two}
 use Rattle.annex10.specs.declared.Found.{Found}
@@ -35,7 +36,7 @@ flatTruth (n, none) = record { number = n; value = 0 }
 
 -- the header of the message at a bit offset, with `count` positions repaired: a stream has 18 bytes, else 2, before 4 for the count
 unfoldable pub countedValidity : List ℕ → ℕ → ℕ → ℕ → ℕ → Told Bool
-countedValidity bytes offset count j k = cond (eqb (length bytes) 18) (andThen (countedRepairs count j k) (validityAt bytes offset)) (refused 2)
+countedValidity bytes offset count j k = cond (eqb (length bytes) 18) (andThen (countedRepairs count j k) (validityAt 14 longHeader bytes offset)) (refused 2)
 
 -- the count and the positions, zeros where there are none
 abbrev pub flatRepairs : Repairs → FlatFound

@@ -9,6 +9,7 @@ use streams::header::df_is_valid_extended_squitter;
 ghost use mathlib.Core.Path.{_≡_};
 ghost use Prim.Native.Nat.{_≤_};
 ghost use Rattle.lists.specs.Told.{done, refused};
+ghost use Rattle.annex10.specs.Header.{longHeader};
 ghost use Rattle.mode_s.specs.Counted.{countedRepairs};
 ghost use Rattle.streams.specs.Remainders.{crcAt};
 ghost use Rattle.streams.specs.Distances.{distanceAt};
@@ -24,7 +25,7 @@ pub struct FlatNumber {
 
 #[no_mangle]
 pub extern "C" fn probe_remainder(bytes: &[u8], offset: usize) -> FlatNumber
-    ensures { λ r. ⌜ r ≡ flatNumber (crcAt (now (bytes .entry)) offset) ⌝ }
+    ensures { λ r. ⌜ r ≡ flatNumber (crcAt 14 (now (bytes .entry)) offset) ⌝ }
 {
     match compute_crc(bytes, offset) {
         Crc::Is(value) => FlatNumber { number: 0, value },
@@ -62,7 +63,7 @@ fn refused(number: u32) -> FlatNumber
 }
 
 fn check(bytes: &[u8], offset: usize, repairs: Repairs) -> FlatNumber
-    ensures { λ r. ⌜ r ≡ flatTruth (validityAt (now (bytes .entry)) offset repairs) ⌝ }
+    ensures { λ r. ⌜ r ≡ flatTruth (validityAt 14 longHeader (now (bytes .entry)) offset repairs) ⌝ }
 {
     match df_is_valid_extended_squitter(bytes, offset, repairs) {
         Validity::Valid => FlatNumber {

@@ -73,7 +73,7 @@ pub extern "C" fn probe_double(crc: u32) -> FlatFound
 
 #[no_mangle]
 pub extern "C" fn probe_codes(crcs: &[u32], codes: &mut [u32]) -> u32
-    ensures { λ r. ⌜ (r, now (codes .exit)) ≡ codesUpToInto 2 (now (crcs .entry)) (now (codes .entry)) ⌝ }
+    ensures { λ r. ⌜ (r, now (codes .exit)) ≡ codesUpToInto 14 2 2 (now (crcs .entry)) (now (codes .entry)) ⌝ }
 {
     bit_errors_from_crc24s(2, crcs, codes)
 }

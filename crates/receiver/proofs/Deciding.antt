@@ -1,8 +1,10 @@
 -- The refusals and the answer, as the code puts them together.
 --     -taken            what a number 0 says
---     read-some, read-none   what a search found
---     best-listed       what is found lies at one of the places
+--     read-none         nothing was found
+--     best-fit, place-fit                 the length of the message that was found
+--     weighed-there, answer-none, answer-timed   what was found, with its time
 --     -refused, -done   the answers
+--     answer-asks, decoded-long, decoded-short   the decode, from what was found and the sums of the window
 -- Assumes nothing.
 use mathlib.Core.Path.{_≡_, refl, sym, ap, _∙_, subst}
 use mathlib.Core.Bool.{Bool, true, false, _&&_, cond}
@@ -13,8 +15,9 @@ use Prim.Native.Nat.{ℕ, _^_, _≤_}
 use native.Mathlib.Omega.{arith}
 use borrow.Author.Tests.{eqb-true, eqb-false, leb-true, eq-eqb, ne-eqb}
 use lib.Dec.{eqb, leb}
-use lib.ListN.{length}
+use lib.ListN.{length, take}
 use lib.Ieee.{Float}
+use Rattle.annex10.proofs.Repairing.{length-repaired}
 use Rattle.place.specs.declared.Place.{Place}
 use Rattle.place.specs.Step.{sampleStart}
 use Rattle.place.specs.All.{listed}
@@ -23,22 +26,28 @@ use Rattle.timing.specs.declared.Timing.{Timing}
 use Rattle.timing.specs.Subsample.{fractionOf}
 use Rattle.timing.specs.Inner.{movesCount}
 use Rattle.timing.proofs.Laws.{few-moves}
-use Rattle.kernels.specs.Symbols.{symbolsOf}
+use Rattle.lists.proofs.Table.{length-tabulate}
+use Rattle.kernels.specs.Symbols.{symbolsOf, sumsOf, symbolIn, symbolsIn, setOut}
+use Rattle.kernels.proofs.Summing.{set-done, sums-length, symbols-in}
+use Rattle.streams.proofs.Reading.{message-length}
 use Rattle.search.specs.declared.Settings.{Settings}
 use Rattle.search.specs.declared.Candidate.{Candidate}
 use Rattle.search.specs.declared.Survivor.{Survivor}
 use Rattle.search.specs.declared.Arrival.{Arrival}
 use Rattle.search.specs.declared.Answer.{Answer}
+use Rattle.search.specs.declared.ShortAnswer.{ShortAnswer}
+use Rattle.search.specs.declared.BothAnswers.{BothAnswers}
 use Rattle.search.specs.Choice.{candidate, candidateAt, best}
 use Rattle.search.specs.Window.{Window}
-use Rattle.search.specs.Kinds.{long}
-use Rattle.search.specs.Seen.{row, promptAt, windowOf}
+use Rattle.search.specs.Kinds.{Kind, placesOf, long, short}
+use Rattle.search.specs.Seen.{row, bitsAt, promptAt, windowOf, seen}
 use Rattle.search.specs.When.{promptOf, about, timingAt, indexOf}
 use Rattle.floats.specs.Numbers.{zeroF}
-use Rattle.search.specs.Answers.{orNumber, windowNumber, settingsNumber, indexNumber, placeNumber, noCandidate, refusedAnswer, survivorOf, survivorOr, readAt, bestOf, arrivalAt, answerOf, decodeOf}
+use Rattle.search.specs.Answers.{orNumber, windowNumber, settingsNumber, indexNumber, placeNumber, noCandidate, refusedAnswer, survivorOf, survivorOr, readAt, bestOf, arrivalAt, answered, decodeOf}
 use Rattle.search.proofs.Scanning.{scan-from, survivor-is, not-some}
-use Rattle.receiver.specs.Inner.{powerIn, seenIn, arrivalIn}
+use Rattle.receiver.specs.Inner.{heldOf, powerIn, seenIn, arrivalIn, Weighed, cutAnswer, answerIn}
 use Rattle.receiver.proofs.Prompting.{timing-seen}
+use Rattle.receiver.proofs.Widening.{Fit, unpadded, answer-long, answer-short}
 
 -- ---- what a number 0 says
 
@@ -66,9 +75,9 @@ index-taken index = go (leb 128 index) (leb index (2 ^ 63)) refl refl
     go true false p q e = absurd (omega arith)
     go false b p q e = absurd (omega arith)
 
-pub place-taken : (p : Place) → placeNumber p ≡ 0 → listed 31 p ≡ true
+pub place-taken : (k : Kind) (p : Place) → placeNumber k p ≡ 0 → listed (k .last) p ≡ true
 unfolding placeNumber
-place-taken p = go (listed 31 p)
+place-taken k p = go (listed (k .last) p)
   where
     go : (b : Bool) → _≡_ {A = ℕ} (cond b 0 7) 0 → b ≡ true
     go true e = refl
@@ -78,18 +87,18 @@ pub record Taken (samples : List Float) (s : Settings) : Type 0 where
   pub whole : length samples ≡ 2310
   pub settings : settingsNumber s ≡ 0
 
-module _ (samples : List Float) {n : ℕ} (z : n ≡ 0) where
+module _ (k : Kind) (samples : List Float) {n : ℕ} (z : n ≡ 0) where
   pub best-taken : (s : Settings) → n ≡ orNumber (windowNumber samples) (settingsNumber s) → Taken samples s
   best-taken s e =
       let (a, b) = or-zero _ _ (sym e ∙ z) in
       record { whole = window-taken samples a; settings = b }
 
-  pub read-taken : (s : Settings) (p : Place) → n ≡ orNumber (windowNumber samples) (orNumber (settingsNumber s) (placeNumber p))
-      → Taken samples s × (listed 31 p ≡ true)
+  pub read-taken : (s : Settings) (p : Place) → n ≡ orNumber (windowNumber samples) (orNumber (settingsNumber s) (placeNumber k p))
+      → Taken samples s × (listed (k .last) p ≡ true)
   read-taken s p e =
       let (a, b) = or-zero _ _ (sym e ∙ z) in
       let (c, d) = or-zero _ _ b in
-      (record { whole = window-taken samples a; settings = c }, place-taken p d)
+      (record { whole = window-taken samples a; settings = c }, place-taken k p d)
 
   pub decode-taken : (s : Settings) (index : ℕ) → n ≡ orNumber (windowNumber samples) (orNumber (settingsNumber s) (indexNumber index))
       → Taken samples s × (128 ≤ index) × (index ≤ 2 ^ 63)
@@ -99,47 +108,61 @@ module _ (samples : List Float) {n : ℕ} (z : n ≡ 0) where
       let (l, h) = index-taken index d in
       (record { whole = window-taken samples a; settings = c }, l, h)
 
-  pub time-taken : (p : Place) (index : ℕ) → n ≡ orNumber (windowNumber samples) (orNumber (indexNumber index) (placeNumber p))
-      → (length samples ≡ 2310) × (listed 31 p ≡ true) × (128 ≤ index) × (index ≤ 2 ^ 63)
+  pub time-taken : (p : Place) (index : ℕ) → n ≡ orNumber (windowNumber samples) (orNumber (indexNumber index) (placeNumber k p))
+      → (length samples ≡ 2310) × (listed (k .last) p ≡ true) × (128 ≤ index) × (index ≤ 2 ^ 63)
   time-taken p index e =
       let (a, b) = or-zero _ _ (sym e ∙ z) in
       let (c, d) = or-zero _ _ b in
       let (l, h) = index-taken index c in
-      (window-taken samples a, place-taken p d, l, h)
+      (window-taken samples a, place-taken k p d, l, h)
 
 -- ---- what a search found
 
-pub read-some : (o : Option Candidate) {x : Survivor} → x ≡ survivorOf o → x .number ≡ 0 → o ≡ some (x .candidate)
-read-some none e z = absurd (omega (arith, ap (λ (r : Survivor). r .number) e))
-read-some (some c) e z = ap some (sym (ap (λ (r : Survivor). r .candidate) e))
+pub read-none : (k : Kind) (o : Option Candidate) {x : Survivor} → x ≡ heldOf k o → x .number ≢ 0 → o ≡ none
+read-none k none e z = refl
+read-none k (some c) e z = absurd (z (ap (λ (r : Survivor). r .number) e))
 
-pub read-none : (o : Option Candidate) {x : Survivor} → x ≡ survivorOf o → x .number ≢ 0 → o ≡ none
-read-none none e z = refl
-read-none (some c) e z = absurd (z (ap (λ (r : Survivor). r .number) e))
+-- what a candidate at a place is
+record Filled (w : Window) (k : Kind) (a : Candidate) : Type 0 where
+  at : listed (k .last) (a .place) ≡ true
+  size : length (a .message) ≡ k .bytes
+  power : a .prompt ≡ w .prompt (a .place) (a .message)
 
-place-of : (s : Settings) (w : Window) (p : Place) {a : Candidate} → candidateAt long s w p ≡ some a → a .place ≡ p
-unfolding candidateAt candidate
-place-of s w p e = let v = survivor-is s w p _ e in ap (λ (c : Candidate). c .place) (sym (v .is))
+filled : (k : Kind) (s : Settings) (samples : List Float) (p : Place) {a : Candidate} → listed (k .last) p ≡ true
+    → candidateAt k s (seen k samples) p ≡ some a → Filled (seen k samples) k a
+unfolding candidateAt candidate windowOf bitsAt
+filled k s samples p h e =
+    let v = survivor-is s (seen k samples) p _ e in
+    subst (Filled (seen k samples) k) (v .is)
+    (record { at = h; size = length-repaired _ _ ∙ message-length _ (k .bytes) (p .bit); power = refl })
 
-pub best-listed : (s : Settings) (w : Window) {a : Candidate} → best long s w ≡ some a → listed 31 (a .place) ≡ true
-unfolding best long
-best-listed s w e = elim (scan-from (candidateAt long s w) (long .places) none e) [
+best-filled : (k : Kind) (s : Settings) (samples : List Float) {a : Candidate} → best k s (seen k samples) ≡ some a → Filled (seen k samples) k a
+unfolding best
+best-filled k s samples e = elim (scan-from (candidateAt k s (seen k samples)) (placesOf k) none e) [
   | inl q ↦ not-some q
-  | inr q ↦ rw (place-of s w (q .0) (q .2)) (member-listed 31 (q .0) (q .1))
+  | inr q ↦ filled k s samples (q .0) (member-listed (k .last) (q .0) (q .1)) (q .2)
 ]
 
-power-of : (s : Settings) (w : Window) (p : Place) {a : Candidate} → candidateAt long s w p ≡ some a → a .prompt ≡ w .prompt (a .place) (a .message)
-unfolding candidateAt candidate
-power-of s w p e = let v = survivor-is s w p _ e in subst (λ (c : Candidate). c .prompt ≡ w .prompt (c .place) (c .message)) (v .is) refl
+found-there : (k : Kind) (s : Settings) (samples : List Float) (o : Option Candidate) {x : Survivor} → best k s (seen k samples) ≡ o → x ≡ heldOf k o
+    → Weighed k (symbolsOf samples) x
+unfolding windowOf promptAt powerIn row
+found-there k s samples none b e = record { place = λ z. absurd (omega (arith, ap (λ (r : Survivor). r .number) e)); power = λ z. absurd (omega (arith, ap (λ (r : Survivor). r .number) e)) }
+found-there k s samples (some c) b e =
+    let f = best-filled k s samples b in
+    subst (Weighed k (symbolsOf samples)) (sym e)
+    (record { place = λ z. f .at; power = λ z. f .power ∙ ap (powerIn k (symbolsOf samples) (c .place)) (sym (unpadded k (c .message) (f .size))) })
 
--- what is found has its power at its place
-pub best-power : (s : Settings) (samples : List Float) {a : Candidate} → best long s (windowOf 14 samples) ≡ some a
-    → a .prompt ≡ powerIn (symbolsOf samples) (a .place) (a .message)
-unfolding best windowOf promptAt powerIn row
-best-power s samples e = elim (scan-from (candidateAt long s (windowOf 14 samples)) (long .places) none e) [
-  | inl q ↦ not-some q
-  | inr q ↦ power-of s (windowOf 14 samples) (q .0) (q .2)
-]
+-- a message of its kind
+pub best-fit : (k : Kind) (s : Settings) (samples : List Float) → Fit k (best k s (seen k samples))
+best-fit k s samples = record { size = λ c e. best-filled k s samples e .size }
+
+pub place-fit : (k : Kind) (s : Settings) (samples : List Float) (p : Place) → listed (k .last) p ≡ true → Fit k (candidateAt k s (seen k samples) p)
+place-fit k s samples p h = record { size = λ c e. filled k s samples p h e .size }
+
+-- what is found lies at one of the places, and has its power there
+best-weighed : (k : Kind) (s : Settings) (samples symbols : List Float) {x : Survivor} → x ≡ heldOf k (best k s (seen k samples)) → symbols ≡ symbolsOf samples
+    → Weighed k symbols x
+best-weighed k s samples symbols e q = rw q (found-there k s samples (best k s (seen k samples)) refl e)
 
 -- ---- timing
 
@@ -147,57 +170,108 @@ pub moves-few : (w : Window) (message : List ℕ) (s : ℕ) {t : Timing} → t �
 unfolding timingAt
 moves-few w message s e = rw e (few-moves (fractionOf (about w message (promptOf w message s)) (promptOf w message s .offset)))
 
-pub timed-is : (symbols : List Float) (p : Place) (message : List ℕ) (index : ℕ) {t : Timing} {i : ℕ} → t ≡ timingAt (seenIn symbols) message (sampleStart p)
-    → i ≡ indexOf index (sampleStart p) (t .moves) → record { number = 0; index = i; fraction = t .fraction } ≡ arrivalIn symbols p message index
+pub timed-is : (k : Kind) (symbols : List Float) (p : Place) (message : List ℕ) (index : ℕ) {t : Timing} {i : ℕ} → t ≡ timingAt (seenIn k symbols) message (sampleStart p)
+    → i ≡ indexOf index (sampleStart p) (t .moves) → record { number = 0; index = i; fraction = t .fraction } ≡ arrivalIn k symbols p message index
 unfolding arrivalIn
-timed-is symbols p message index et ei = rw (ei, et)
+timed-is k symbols p message index et ei = rw (ei, et)
+
+-- ---- what is found, with its time
+
+pub symbols-set : (sums symbols : List Float) {r : ℕ} {now : List Float} → length sums ≡ 2304 → length symbols ≡ 2304 → (r, now) ≡ setOut sums symbols
+    → now ≡ symbolsIn sums
+symbols-set sums symbols a b e = ap (λ (p : ℕ × List Float). p .1) (e ∙ set-done sums symbols a b)
+
+pub set-length : (sums : List Float) → length (symbolsIn sums) ≡ 2304
+unfolding symbolsIn
+set-length sums = length-tabulate 2304 (symbolIn sums)
+
+module _ (k : Kind) (sums : List Float) (x : Survivor) where
+  abbrev message : List ℕ
+  message = x .candidate .message
+
+  pub weighed-there : {b : ℕ} {symbols : List Float} → Weighed k (symbolsIn sums) x → x .number ≡ 0 → b ≡ k .bytes → symbols ≡ symbolsIn sums
+      → x .candidate .prompt ≡ powerIn k symbols (x .candidate .place) (take b message)
+  weighed-there w z e m = rw (m, e) (w .power z)
+
+  pub answer-none : (index : ℕ) {r : Answer} → x .number ≢ 0 → r ≡ refusedAnswer long 1 → r ≡ answerIn k (symbolsIn sums) index x
+  unfolding answerIn
+  answer-none index h e = rw (ne-eqb (x .number) 0 h) e
+
+  pub answer-timed : (index : ℕ) {b : ℕ} {symbols : List Float} {t : Arrival} → x .number ≡ 0 → b ≡ k .bytes → symbols ≡ symbolsIn sums
+      → t ≡ arrivalIn k symbols (x .candidate .place) (take b message) index
+      → (let c = x .candidate in record { number = 0; place = c .place; message = message; repairs = c .repairs; slicer = c .slicer; cn0 = c .cn0; index = t .index; fraction = t .fraction })
+      ≡ answerIn k (symbolsIn sums) index x
+  unfolding answerIn
+  answer-timed index z e m et = rw (eq-eqb (x .number) 0 z, et, e, m)
 
 -- ---- the answers
 
-module _ (samples : List Float) {n : ℕ} where
-  pub read-refused : (s : Settings) (p : Place) {x : Survivor} → n ≡ orNumber (windowNumber samples) (orNumber (settingsNumber s) (placeNumber p))
-      → n ≢ 0 → x ≡ record { number = n; candidate = noCandidate } → x ≡ readAt samples s p
+module _ (k : Kind) (samples : List Float) {n : ℕ} where
+  pub read-refused : (s : Settings) (p : Place) {x : Survivor} → n ≡ orNumber (windowNumber samples) (orNumber (settingsNumber s) (placeNumber k p))
+      → n ≢ 0 → x ≡ record { number = n; candidate = noCandidate k } → x ≡ readAt k samples s p
   unfolding readAt survivorOr
   read-refused s p e h ex = rw (← e, ne-eqb n 0 h) ex
 
-  pub read-done : (s : Settings) (p : Place) {x : Survivor} → n ≡ orNumber (windowNumber samples) (orNumber (settingsNumber s) (placeNumber p))
-      → n ≡ 0 → x ≡ survivorOf (candidateAt long s (windowOf 14 samples) p) → x ≡ readAt samples s p
+  pub read-done : (s : Settings) (p : Place) {x : Survivor} → n ≡ orNumber (windowNumber samples) (orNumber (settingsNumber s) (placeNumber k p))
+      → n ≡ 0 → x ≡ survivorOf k (candidateAt k s (seen k samples) p) → x ≡ readAt k samples s p
   unfolding readAt survivorOr
   read-done s p e z ex = rw (← e, eq-eqb n 0 z) ex
 
   pub best-refused : (s : Settings) {x : Survivor} → n ≡ orNumber (windowNumber samples) (settingsNumber s)
-      → n ≢ 0 → x ≡ record { number = n; candidate = noCandidate } → x ≡ bestOf samples s
+      → n ≢ 0 → x ≡ record { number = n; candidate = noCandidate k } → x ≡ bestOf k samples s
   unfolding bestOf survivorOr
   best-refused s e h ex = rw (← e, ne-eqb n 0 h) ex
 
   pub best-done : (s : Settings) {x : Survivor} → n ≡ orNumber (windowNumber samples) (settingsNumber s)
-      → n ≡ 0 → x ≡ survivorOf (best long s (windowOf 14 samples)) → x ≡ bestOf samples s
+      → n ≡ 0 → x ≡ survivorOf k (best k s (seen k samples)) → x ≡ bestOf k samples s
   unfolding bestOf survivorOr
   best-done s e z ex = rw (← e, eq-eqb n 0 z) ex
 
-  pub time-refused : (p : Place) (message : List ℕ) (index : ℕ) → n ≡ orNumber (windowNumber samples) (orNumber (indexNumber index) (placeNumber p))
-      → n ≢ 0 → record { number = n; index = 0; fraction = zeroF } ≡ arrivalAt samples p message index
+  pub time-refused : (p : Place) (message : List ℕ) (index : ℕ) → n ≡ orNumber (windowNumber samples) (orNumber (indexNumber index) (placeNumber k p))
+      → n ≢ 0 → record { number = n; index = 0; fraction = zeroF } ≡ arrivalAt k samples p message index
   unfolding arrivalAt
   time-refused p message index e h = rw (← e, ne-eqb n 0 h)
 
-  pub time-done : (p : Place) (message : List ℕ) (index : ℕ) {x : Arrival} → n ≡ orNumber (windowNumber samples) (orNumber (indexNumber index) (placeNumber p))
-      → n ≡ 0 → x ≡ arrivalIn (symbolsOf samples) p message index → x ≡ arrivalAt samples p message index
+  pub time-done : (p : Place) (message : List ℕ) (index : ℕ) {symbols : List Float} {x : Arrival}
+      → n ≡ orNumber (windowNumber samples) (orNumber (indexNumber index) (placeNumber k p))
+      → n ≡ 0 → symbols ≡ symbolsOf samples → x ≡ arrivalIn k symbols p message index → x ≡ arrivalAt k samples p message index
   unfolding arrivalAt arrivalIn
-  time-done p message index e z ex = rw (← e, eq-eqb n 0 z) (ex ∙ rw (timing-seen samples message (sampleStart p)))
+  time-done p message index e z m ex = rw (← e, eq-eqb n 0 z) (ex ∙ rw (m, timing-seen k samples message (sampleStart p)))
 
   pub decode-refused : (s : Settings) (index : ℕ) {x : Answer} → n ≡ orNumber (windowNumber samples) (orNumber (settingsNumber s) (indexNumber index))
-      → n ≢ 0 → x ≡ refusedAnswer n → x ≡ decodeOf samples s index
+      → n ≢ 0 → x ≡ refusedAnswer k n → x ≡ decodeOf k samples s index
   unfolding decodeOf
   decode-refused s index e h ex = rw (← e, ne-eqb n 0 h) ex
 
-  pub decode-none : (s : Settings) (index : ℕ) {x : Answer} → n ≡ orNumber (windowNumber samples) (orNumber (settingsNumber s) (indexNumber index))
-      → n ≡ 0 → best long s (windowOf 14 samples) ≡ none → x ≡ refusedAnswer 1 → x ≡ decodeOf samples s index
+  decode-done : (s : Settings) (index : ℕ) {x : Answer} → n ≡ orNumber (windowNumber samples) (orNumber (settingsNumber s) (indexNumber index))
+      → n ≡ 0 → x ≡ answered k samples index (best k s (seen k samples)) → x ≡ decodeOf k samples s index
   unfolding decodeOf
-  decode-none s index e z b ex = rw (← e, eq-eqb n 0 z, b) ex
+  decode-done s index e z ex = rw (← e, eq-eqb n 0 z) ex
 
-  pub decode-done : (s : Settings) (index : ℕ) (c : Candidate) {t : Arrival} → n ≡ orNumber (windowNumber samples) (orNumber (settingsNumber s) (indexNumber index))
-      → n ≡ 0 → best long s (windowOf 14 samples) ≡ some c → t ≡ arrivalIn (symbolsOf samples) (c .place) (c .message) index
-      → record { number = 0; place = c .place; message = c .message; repairs = c .repairs; slicer = c .slicer; cn0 = c .cn0; index = t .index; fraction = t .fraction }
-      ≡ decodeOf samples s index
-  unfolding decodeOf answerOf arrivalIn
-  decode-done s index c e z b et = rw (← e, eq-eqb n 0 z, b, et, timing-seen samples (c .message) (sampleStart (c .place)))
+-- the two answers of both searches
+pub both-are : {l m : Answer} {x y : ShortAnswer} → l ≡ m → x ≡ y → _≡_ {A = BothAnswers} (record { long = l; short = x }) (record { long = m; short = y })
+both-are e f = rw (e, f)
+
+-- from what is found, with the sums of the window
+module _ (samples : List Float) (s : Settings) (index : ℕ) {n : ℕ} {sums : List Float}
+    (e : n ≡ orNumber (windowNumber samples) (orNumber (settingsNumber s) (indexNumber index))) (z : n ≡ 0) (q : sums ≡ sumsOf samples) where
+  window-symbols : symbolsIn sums ≡ symbolsOf samples
+  window-symbols = ap symbolsIn q ∙ symbols-in samples
+
+  pub answer-asks : (k : Kind) {x : Survivor} → x ≡ heldOf k (best k s (seen k samples))
+      → (length sums ≡ 2304) × (128 ≤ index) × (index ≤ 2 ^ 63) × Weighed k (symbolsIn sums) x
+  answer-asks k ex =
+      let t = decode-taken k samples z s index e in
+      (ap length q ∙ sums-length samples, t .1, t .2, best-weighed k s samples (symbolsIn sums) ex window-symbols)
+
+  pub decoded-long : {x : Survivor} {r : Answer} → x ≡ heldOf long (best long s (seen long samples)) → r ≡ answerIn long (symbolsIn sums) index x
+      → r ≡ decodeOf long samples s index
+  decoded-long {x} ex er =
+      decode-done long samples s index e z
+      (er ∙ ap (λ (y : List Float). answerIn long y index x) window-symbols ∙ answer-long samples index (best long s (seen long samples)) (best-fit long s samples) ex)
+
+  pub decoded-short : {x : Survivor} {r : Answer} → x ≡ heldOf short (best short s (seen short samples)) → r ≡ answerIn short (symbolsIn sums) index x
+      → cutAnswer r ≡ decodeOf short samples s index
+  decoded-short {x} ex er =
+      decode-done short samples s index e z
+      (ap cutAnswer (er ∙ ap (λ (y : List Float). answerIn short y index x) window-symbols) ∙ answer-short samples index (best short s (seen short samples)) (best-fit short s samples) ex)

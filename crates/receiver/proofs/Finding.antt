@@ -1,9 +1,10 @@
 -- What is read at a place is the window's, and the search is a scan of the places in their order.
---     ready-sizes      the arrays' lengths
+--     scanned-sizes    the arrays' lengths
+--     scan-done, both-scanned     what a scan has written: for one kind of message, for both
 --     crc-at           the remainder of a place
 --     lent-read        the row and the streams of a place are those that the window has there
 --     lent-known       what clears the two messages, and whether their remainders differ
---     best-is          all 248 places
+--     best-is          all places
 -- Assumes nothing.
 use mathlib.Core.Path.{_≡_, refl, sym, ap, _∙_, subst}
 use mathlib.Core.Bool.{Bool, true, not, cond}
@@ -11,6 +12,7 @@ use mathlib.Core.List.{List}
 use mathlib.Core.Option.{none, some}
 use Prim.Native.Nat.{ℕ, _+_, _-_, _*_, _<_, _≤_, min}
 use native.Mathlib.Omega.{arith}
+use borrow.Author.Tests.{eq-eqb}
 use lib.Dec.{eqb}
 use lib.ListN.{length, getD, take, drop}
 use lib.Ieee.{Float}
@@ -30,9 +32,9 @@ use Rattle.place.proofs.All.{counted}
 use Rattle.kernels.specs.Symbols.{sumsOf}
 use Rattle.kernels.proofs.Summing.{symbols-length}
 use Rattle.streams.specs.Streams.{messageAt}
-use Rattle.scan.specs.Flat.{bitsFrom, crcIn, crcsIn, messageFrom, scanned}
+use Rattle.scan.specs.Flat.{bitsFrom, crcIn, crcsIn, messageFrom, roomFor, scanned, scannedBoth}
 use Rattle.scan.specs.Lanes.{laneBytes}
-use Rattle.scan.proofs.Comparing.{scanned-done}
+use Rattle.scan.proofs.Comparing.{scanned-done, both-done}
 use Rattle.scan.proofs.Starting.{bits-start, stream-lane, digits-of}
 use Rattle.search.specs.declared.Settings.{Settings}
 use Rattle.search.specs.declared.Reading.{Reading}
@@ -43,41 +45,46 @@ use Rattle.search.specs.declared.Survivor.{Survivor}
 use Rattle.search.specs.Trials.{reading}
 use Rattle.search.specs.Choice.{candidate, dropped, survivor, candidateAt, scan, best}
 use Rattle.search.specs.Window.{Window}
-use Rattle.search.specs.Kinds.{long}
-use Rattle.search.specs.Seen.{row, stream, bitsAt, promptAt, noiseAt, windowOf}
-use Rattle.search.specs.Answers.{survivorOf}
-use Rattle.receiver.specs.Inner.{Scanned, Ready, Finds, foundBy, Streams, Known, seenAt}
+use Rattle.search.specs.Kinds.{Kind, long, short}
+use Rattle.search.specs.Seen.{row, stream, bitsAt, promptAt, noiseAt, windowOf, seen}
+use Rattle.receiver.specs.Inner.{Scanned, Ready, heldOf, Finds, foundBy, Streams, Known, seenAt}
+use Rattle.receiver.proofs.EitherKind.{Right}
 
-pub record Sizes (coherent noncoherent crcs others : List ℕ) : Type 0 where
+pub record Sizes (k : Kind) (coherent noncoherent crcs others : List ℕ) : Type 0 where
   pub first : length coherent ≡ 1152
   pub second : length noncoherent ≡ 1152
-  pub first-crcs : length crcs ≡ 248
-  pub second-crcs : length others ≡ 248
+  pub first-crcs : length crcs ≡ 8 * k .last
+  pub second-crcs : length others ≡ 8 * k .last
 
-crcs-length : (slicer : Slicer) (samples : List Float) → length (crcsIn 14 (bitsFrom slicer samples) 248) ≡ 248
+crcs-length : (k : Kind) (slicer : Slicer) (samples : List Float) → length (crcsIn (k .bytes) (bitsFrom slicer samples) (8 * k .last)) ≡ 8 * k .last
 unfolding crcsIn
-crcs-length slicer samples = length-tabulate 248 (crcIn 14 (bitsFrom slicer samples))
+crcs-length k slicer samples = length-tabulate (8 * k .last) (crcIn (k .bytes) (bitsFrom slicer samples))
 
-pub scanned-sizes : (samples : List Float) (coherent noncoherent crcs others : List ℕ) → Scanned samples coherent noncoherent crcs others
-    → Sizes coherent noncoherent crcs others
-scanned-sizes samples coherent noncoherent crcs others w =
+pub scanned-sizes : (k : Kind) (samples : List Float) (coherent noncoherent crcs others : List ℕ) → Scanned k samples coherent noncoherent crcs others
+    → Sizes k coherent noncoherent crcs others
+scanned-sizes k samples coherent noncoherent crcs others w =
     record {
       first = ap length (w .first) ∙ digits-of Coherent samples .size;
       second = ap length (w .second) ∙ digits-of Noncoherent samples .size;
-      first-crcs = ap length (w .first-crcs) ∙ crcs-length Coherent samples;
-      second-crcs = ap length (w .second-crcs) ∙ crcs-length Noncoherent samples;
+      first-crcs = ap length (w .first-crcs) ∙ crcs-length k Coherent samples;
+      second-crcs = ap length (w .second-crcs) ∙ crcs-length k Noncoherent samples;
     }
 
-pub sums-length : (samples symbols : List Float) (coherent noncoherent crcs others : List ℕ) → Ready samples symbols coherent noncoherent crcs others → length symbols ≡ 2304
-sums-length samples symbols coherent noncoherent crcs others w = ap length (w .sums) ∙ symbols-length samples
+pub sums-length : (k : Kind) (samples symbols : List Float) (coherent noncoherent crcs others : List ℕ) → Ready k samples symbols coherent noncoherent crcs others → length symbols ≡ 2304
+sums-length k samples symbols coherent noncoherent crcs others w = ap length (w .sums) ∙ symbols-length samples
 
 -- what a scan has written
-pub scan-done : (samples z : List Float) (a b c d : List ℕ) {n : ℕ} {sums : List Float} {coherent noncoherent crcs others : List ℕ} → length samples ≡ 2310
-    → length z ≡ 2304 → length a ≡ 1152 → length b ≡ 1152 → length c ≡ 248 → length d ≡ 248
-    → _≡_ {A = ℕ × List Float × List ℕ × List ℕ × List ℕ × List ℕ} (n, sums, coherent, noncoherent, crcs, others) (scanned samples z a b c d)
-    → Scanned samples coherent noncoherent crcs others × (sums ≡ sumsOf samples)
-scan-done samples z a b c d h hz ha hb hc hd e =
-    let q = e ∙ scanned-done samples z a b c d h hz ha hb hc hd in (
+room-made : (many : ℕ) (z : List Float) (a b c d : List ℕ) → length z ≡ 2304 → length a ≡ 1152 → length b ≡ 1152 → length c ≡ many → length d ≡ many
+    → roomFor many z a b c d ≡ true
+unfolding roomFor
+room-made many z a b c d hz ha hb hc hd = simp (eq-eqb _ _ hz, eq-eqb _ _ ha, eq-eqb _ _ hb, eq-eqb _ _ hc, eq-eqb _ _ hd)
+
+pub scan-done : (k : Kind) (samples z : List Float) (a b c d : List ℕ) {n : ℕ} {sums : List Float} {coherent noncoherent crcs others : List ℕ}
+    → length samples ≡ 2310 → length z ≡ 2304 → length a ≡ 1152 → length b ≡ 1152 → length c ≡ 8 * k .last → length d ≡ 8 * k .last
+    → _≡_ {A = ℕ × List Float × List ℕ × List ℕ × List ℕ × List ℕ} (n, sums, coherent, noncoherent, crcs, others) (scanned (k .bytes) (8 * k .last) samples z a b c d)
+    → Scanned k samples coherent noncoherent crcs others × (sums ≡ sumsOf samples)
+scan-done k samples z a b c d h hz ha hb hc hd e =
+    let q = e ∙ scanned-done (k .bytes) (8 * k .last) samples z a b c d h (room-made (8 * k .last) z a b c d hz ha hb hc hd) in (
       record {
         whole = h;
         first = ap (λ (x : ℕ × List Float × List ℕ × List ℕ × List ℕ × List ℕ). x .2) q;
@@ -88,115 +95,147 @@ scan-done samples z a b c d h hz ha hb hc hd e =
       ap (λ (x : ℕ × List Float × List ℕ × List ℕ × List ℕ × List ℕ). x .1) q,
     )
 
+-- one for both kinds of message
+abbrev Seven : Type 0
+Seven = ℕ × List Float × List ℕ × List ℕ × List ℕ × List ℕ × List ℕ × List ℕ
+
+pub both-scanned : (samples z : List Float) (a b c d e f : List ℕ) {n : ℕ} {sums : List Float} {coherent noncoherent crcs others shortCrcs shortOthers : List ℕ}
+    → length samples ≡ 2310 → length z ≡ 2304 → length a ≡ 1152 → length b ≡ 1152 → length c ≡ 248 → length d ≡ 248 → length e ≡ 696 → length f ≡ 696
+    → _≡_ {A = Seven} (n, sums, coherent, noncoherent, crcs, others, shortCrcs, shortOthers) (scannedBoth samples z a b c d e f)
+    → Scanned long samples coherent noncoherent crcs others × Scanned short samples coherent noncoherent shortCrcs shortOthers × (sums ≡ sumsOf samples)
+unfolding long short
+both-scanned samples z a b c d e f h hz ha hb hc hd he hf g =
+    let q = g ∙ both-done samples z a b c d e f h (room-made 248 z a b c d hz ha hb hc hd) he hf in (
+      record {
+        whole = h;
+        first = ap (λ (x : Seven). x .2) q;
+        second = ap (λ (x : Seven). x .3) q;
+        first-crcs = ap (λ (x : Seven). x .4) q;
+        second-crcs = ap (λ (x : Seven). x .5) q;
+      },
+      record {
+        whole = h;
+        first = ap (λ (x : Seven). x .2) q;
+        second = ap (λ (x : Seven). x .3) q;
+        first-crcs = ap (λ (x : Seven). x .6) q;
+        second-crcs = ap (λ (x : Seven). x .7) q;
+      },
+      ap (λ (x : Seven). x .1) q,
+    )
+
 -- where a place starts
-pub record Start (p : Place) : Type 0 where
+pub record Start (m : ℕ) (p : Place) : Type 0 where
   pub low : 8 ≤ sampleStart p
-  pub high : sampleStart p ≤ 255
+  pub high : sampleStart p < 8 + 8 * m
   pub lane : 8 * p .bit + (4 * p .symbol + p .phase) - 8 ≡ sampleStart p - 8
 
-pub starts : (p : Place) → listed 31 p ≡ true → Start p
-starts p h =
-    let l = listed-gives 31 p h in
+pub starts : (m : ℕ) (p : Place) → listed m p ≡ true → Start m p
+starts m p h =
+    let l = listed-gives m p h in
     record { low = omega (arith, l .from, l .to, l .phase, l .symbol); high = omega (arith, l .from, l .to, l .phase, l .symbol); lane = omega arith }
 
 -- ---- what is seen at the place is what the window has there
 
-module _ (samples : List Float) (p : Place) where
+module _ (k : Kind) (samples : List Float) (p : Place) where
   abbrev here : Window
-  here = seenAt samples (row samples (p .phase)) (stream samples Coherent p) (stream samples Noncoherent p)
+  here = seenAt k samples (row samples (p .phase)) (stream samples Coherent p) (stream samples Noncoherent p)
 
-  same-bits : (slicer : Slicer) → messageAt (chosen slicer (stream samples Coherent p) (stream samples Noncoherent p)) 14 (p .bit) ≡ messageAt (stream samples slicer p) 14 (p .bit)
+  same-bits : (slicer : Slicer) → messageAt (chosen slicer (stream samples Coherent p) (stream samples Noncoherent p)) (k .bytes) (p .bit) ≡ messageAt (stream samples slicer p) (k .bytes) (p .bit)
   same-bits Coherent = refl
   same-bits Noncoherent = refl
 
-  same-candidate : (r : Reading) → candidate here p r ≡ candidate (windowOf 14 samples) p r
+  same-candidate : (r : Reading) → candidate here p r ≡ candidate (seen k samples) p r
   unfolding candidate seenAt windowOf bitsAt promptAt noiseAt
   same-candidate r = rw (same-bits (r .slicer))
 
-  same-distance : here .distance p ≡ windowOf 14 samples .distance p
+  same-distance : here .distance p ≡ seen k samples .distance p
   unfolding seenAt windowOf bitsAt
   same-distance = refl
 
-  same-survivor : (s : Settings) (t : Tried) → survivor s here p t ≡ survivor s (windowOf 14 samples) p t
+  same-survivor : (s : Settings) (t : Tried) → survivor s here p t ≡ survivor s (seen k samples) p t
   unfolding survivor
   same-survivor s Fail = refl
   same-survivor s (Pass r) =
       ap (λ (c : Candidate). cond (dropped s (here .distance p) c) none (some c)) (same-candidate r)
-      ∙ ap (λ (d : ℕ). cond (dropped s d (candidate (windowOf 14 samples) p r)) none (some (candidate (windowOf 14 samples) p r))) same-distance
+      ∙ ap (λ (d : ℕ). cond (dropped s d (candidate (seen k samples) p r)) none (some (candidate (seen k samples) p r))) same-distance
 
-  same-reading : (level : ℕ) → reading long level (here .bits Coherent p) (here .bits Noncoherent p)
-      ≡ reading long level (windowOf 14 samples .bits Coherent p) (windowOf 14 samples .bits Noncoherent p)
+  same-reading : (level : ℕ) → reading k level (here .bits Coherent p) (here .bits Noncoherent p)
+      ≡ reading k level (seen k samples .bits Coherent p) (seen k samples .bits Noncoherent p)
   unfolding seenAt windowOf bitsAt
   same-reading level = refl
 
-  pub seen-there : (s : Settings) → candidateAt long s here p ≡ candidateAt long s (windowOf 14 samples) p
+  pub seen-there : (s : Settings) → candidateAt k s here p ≡ candidateAt k s (seen k samples) p
   unfolding candidateAt
-  seen-there s = same-survivor s _ ∙ ap (survivor s (windowOf 14 samples) p) (same-reading (min (s .level) (long .most)))
+  seen-there s = same-survivor s _ ∙ ap (survivor s (seen k samples) p) (same-reading (min (s .level) (k .most)))
 
 -- ---- the remainder of a place
 
-pub crc-at : (slicer : Slicer) (samples : List Float) (p : Place) → listed 31 p ≡ true
-    → getD (crcsIn 14 (bitsFrom slicer samples) 248) (sampleStart p - 8) 0 ≡ remainder (messageAt (stream samples slicer p) 14 (p .bit))
+pub crc-at : (k : Kind) → Right k → (slicer : Slicer) (samples : List Float) (p : Place) → listed (k .last) p ≡ true
+    → getD (crcsIn (k .bytes) (bitsFrom slicer samples) (8 * k .last)) (sampleStart p - 8) 0 ≡ remainder (messageAt (stream samples slicer p) (k .bytes) (p .bit))
 unfolding crcsIn crcIn bitsAt
-crc-at slicer samples p h =
-    let l = listed-gives 31 p h in
-    let t = starts p h in
+crc-at k r slicer samples p h =
+    let l = listed-gives (k .last) p h in
+    let t = starts (k .last) p h in
     let e : 8 + (sampleStart p - 8) ≡ sampleStart p = omega (arith, t .low) in
-    let i : sampleStart p - 8 < 248 = omega (arith, t .low, t .high) in
-    getD-tabulate 248 (λ (j : ℕ). remainder (messageFrom 14 (bitsFrom slicer samples) (8 + j))) (sampleStart p - 8) 0 i
-    ∙ ap (λ (j : ℕ). remainder (messageFrom 14 (bitsFrom slicer samples) j)) e
-    ∙ ap remainder (sym (bits-start 14 slicer samples p (omega (arith, l .phase)) (omega (arith, l .symbol)) (omega (arith, l .to))))
+    let i : sampleStart p - 8 < 8 * k .last = omega (arith, t .low, t .high) in
+    getD-tabulate (8 * k .last) (λ (j : ℕ). remainder (messageFrom (k .bytes) (bitsFrom slicer samples) (8 + j))) (sampleStart p - 8) 0 i
+    ∙ ap (λ (j : ℕ). remainder (messageFrom (k .bytes) (bitsFrom slicer samples) j)) e
+    ∙ ap remainder (sym (bits-start (k .bytes) slicer samples p (omega (arith, l .phase)) (omega (arith, l .symbol)) (omega (arith, l .to, r .last))))
 
 -- ---- what the code lends: i is 576
 
-module _ (samples symbols : List Float) (coherent noncoherent crcs others : List ℕ) (ready : Ready samples symbols coherent noncoherent crcs others)
-    (p : Place) (h : listed 31 p ≡ true) {first second : List ℕ}
+module _ (k : Kind) (right : Right k) (samples symbols : List Float) (coherent noncoherent crcs others : List ℕ) (ready : Ready k samples symbols coherent noncoherent crcs others)
+    (p : Place) (h : listed (k .last) p ≡ true) {first second : List ℕ}
     (a : first ≡ laneBytes coherent (4 * p .symbol + p .phase)) (b : second ≡ laneBytes noncoherent (4 * p .symbol + p .phase)) where
   first-is : first ≡ stream samples Coherent p
   first-is =
-      let l = listed-gives 31 p h in
+      let l = listed-gives (k .last) p h in
       a ∙ ap (λ (x : List ℕ). laneBytes x (4 * p .symbol + p .phase)) (ready .scanned .first) ∙ stream-lane Coherent samples p (omega (arith, l .phase)) (omega (arith, l .symbol))
 
   second-is : second ≡ stream samples Noncoherent p
   second-is =
-      let l = listed-gives 31 p h in
+      let l = listed-gives (k .last) p h in
       b ∙ ap (λ (x : List ℕ). laneBytes x (4 * p .symbol + p .phase)) (ready .scanned .second) ∙ stream-lane Noncoherent samples p (omega (arith, l .phase)) (omega (arith, l .symbol))
 
   pub lent-read : (s : Settings) (i : ℕ) {x : Survivor} → i ≡ 576
-      → x ≡ survivorOf (candidateAt long s (seenAt samples (take i (drop (576 * p .phase) symbols)) first second) p)
-      → x ≡ survivorOf (candidateAt long s (windowOf 14 samples) p)
+      → x ≡ heldOf k (candidateAt k s (seenAt k samples (take i (drop (576 * p .phase) symbols)) first second) p)
+      → x ≡ heldOf k (candidateAt k s (seen k samples) p)
   unfolding row
   lent-read s i z e =
       let r : take i (drop (576 * p .phase) symbols) ≡ row samples (p .phase) = rw (z, ready .sums) in
-      e ∙ rw (r, first-is, second-is) (ap survivorOf (seen-there samples p s))
+      e ∙ rw (r, first-is, second-is) (ap (heldOf k) (seen-there k samples p s))
 
-  pub lent-streams : Streams first second (p .bit)
+  pub lent-streams : Streams k first second (p .bit)
   unfolding laneBytes packed
   lent-streams =
-      let l = listed-gives 31 p h in
-      record { first = ap length a ∙ length-tabulate 18 _; second = ap length b ∙ length-tabulate 18 _; low = omega (arith, l .to) }
+      let l = listed-gives (k .last) p h in
+      let e : p .bit ≤ 144 - 8 * k .bytes = omega (arith, l .to, right .last) in
+      record {
+        first = record { size = ap length a ∙ length-tabulate 18 _; low = e };
+        second = record { size = ap length b ∙ length-tabulate 18 _; low = e };
+      }
 
   -- i is where the remainders stand; x and y are the codes of what clears them
   pub lent-known : (level i x y : ℕ) {c d : Found} {apart : Bool} → i ≡ sampleStart p - 8
-      → Finds level (getD crcs (sampleStart p - 8) 0) (foundBy (getD crcs (sampleStart p - 8) 0) x)
-      → Finds level (getD others (sampleStart p - 8) 0) (foundBy (getD others (sampleStart p - 8) 0) y)
+      → Finds k level (getD crcs (sampleStart p - 8) 0) (foundBy (getD crcs (sampleStart p - 8) 0) x)
+      → Finds k level (getD others (sampleStart p - 8) 0) (foundBy (getD others (sampleStart p - 8) 0) y)
       → c ≡ foundBy (getD crcs i 0) x → d ≡ foundBy (getD others i 0) y → apart ≡ not (eqb (getD crcs i 0) (getD others i 0))
-      → Known level first second (p .bit) c d apart
+      → Known k level first second (p .bit) c d apart
   lent-known level i x y {c} {d} z f g cs ds e =
-      let u : getD crcs (sampleStart p - 8) 0 ≡ remainder (messageAt first 14 (p .bit))
-      = ap (λ (t : List ℕ). getD t (sampleStart p - 8) 0) (ready .scanned .first-crcs) ∙ crc-at Coherent samples p h ∙ rw (← first-is) in
-      let v : getD others (sampleStart p - 8) 0 ≡ remainder (messageAt second 14 (p .bit))
-      = ap (λ (t : List ℕ). getD t (sampleStart p - 8) 0) (ready .scanned .second-crcs) ∙ crc-at Noncoherent samples p h ∙ rw (← second-is) in
+      let u : getD crcs (sampleStart p - 8) 0 ≡ remainder (messageAt first (k .bytes) (p .bit))
+      = ap (λ (t : List ℕ). getD t (sampleStart p - 8) 0) (ready .scanned .first-crcs) ∙ crc-at k right Coherent samples p h ∙ rw (← first-is) in
+      let v : getD others (sampleStart p - 8) 0 ≡ remainder (messageAt second (k .bytes) (p .bit))
+      = ap (λ (t : List ℕ). getD t (sampleStart p - 8) 0) (ready .scanned .second-crcs) ∙ crc-at k right Noncoherent samples p h ∙ rw (← second-is) in
       let m : c ≡ foundBy (getD crcs (sampleStart p - 8) 0) x = cs ∙ ap (λ (j : ℕ). foundBy (getD crcs j 0) x) z in
       let n : d ≡ foundBy (getD others (sampleStart p - 8) 0) y = ds ∙ ap (λ (j : ℕ). foundBy (getD others j 0) y) z in
       record {
-        first = subst (λ (r : ℕ). Finds level r c) u (subst (Finds level (getD crcs (sampleStart p - 8) 0)) (sym m) f);
-        second = subst (λ (r : ℕ). Finds level r d) v (subst (Finds level (getD others (sampleStart p - 8) 0)) (sym n) g);
+        first = subst (λ (r : ℕ). Finds k level r c) u (subst (Finds k level (getD crcs (sampleStart p - 8) 0)) (sym m) f);
+        second = subst (λ (r : ℕ). Finds k level r d) v (subst (Finds k level (getD others (sampleStart p - 8) 0)) (sym n) g);
         differ = e ∙ ap (λ (j : ℕ). not (eqb (getD crcs j 0) (getD others j 0))) z ∙ rw (u, v);
       }
 
 -- ---- the search
 
-pub best-is : (s : Settings) (w : Window) → scan (candidateAt long s w) none (tabulate 248 placeAt) ≡ best long s w
-unfolding best long
-best-is s w = ap (scan (candidateAt long s w) none) (counted 31)
+pub best-is : (k : Kind) (s : Settings) (w : Window) → scan (candidateAt k s w) none (tabulate (8 * k .last) placeAt) ≡ best k s w
+unfolding best
+best-is k s w = ap (scan (candidateAt k s w) none) (counted (k .last))

@@ -1,3 +1,4 @@
+pub mod EitherKind
 pub mod Looking
 pub mod Prompting
 pub mod Trying
@@ -5,6 +6,7 @@ pub mod Turns
 pub mod Answering
 pub mod Weighing
 pub mod Finding
+pub mod Widening
 pub mod Deciding
 pub mod Told
 pub mod Kept

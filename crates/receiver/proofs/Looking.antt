@@ -15,6 +15,7 @@ use lib.Ieee.{Float}
 use Rattle.annex10.specs.declared.Repairs.{Repairs}
 use Rattle.annex10.specs.Repair.{inside, repaired}
 use Rattle.mode_s.specs.Corrected.{corrected}
+use Rattle.mode_s.proofs.Correcting.{corrected-done}
 use Rattle.place.specs.declared.Place.{Place}
 use Rattle.place.specs.declared.Slicer.{Slicer}
 use Rattle.place.specs.Step.{within}
@@ -28,74 +29,76 @@ use Rattle.kernels.specs.Powers.{powerOf, noiseOf, powerTold, powerAt}
 use Rattle.kernels.specs.declared.around.Around.{Around}
 use Rattle.kernels.specs.Both.{powersAt}
 use Rattle.kernels.specs.Around.{aroundAt}
-use Rattle.kernels.proofs.Measuring.{power-done}
+use Rattle.kernels.proofs.Measuring.{power-done, powers-done, around-done}
 use Rattle.kernels.proofs.Told.{powerUntold, power-back}
 use Rattle.streams.specs.declared.message.Message.{Message}
 use Rattle.streams.specs.Streams.{messageAt}
 use Rattle.streams.specs.Messages.{partMessage}
 use Rattle.streams.proofs.Parting as Parting
 use Rattle.streams.proofs.Reading.{message-length}
-use Rattle.receiver.specs.Inner.{powerIn}
+use Rattle.search.specs.Kinds.{Kind}
+use Rattle.receiver.specs.Inner.{powerIn, Streams}
+use Rattle.receiver.proofs.EitherKind.{Right}
 
-row-taken : (size : ℕ) (xs : List Float) (p : Place) → length xs ≡ size → within 14 p ≡ true → rowRefusal size 14 xs p ≡ 0
-unfolding rowRefusal
-row-taken size xs p e w = rw (eq-eqb _ _ e, w)
+module _ (k : Kind) (r : Right k) where
+  abbrev n : ℕ
+  n = k .bytes
 
--- the symbols of a place, from those of all clock phases
-abbrev pub partIn : List Float → Place → List Float
-partIn symbols p = symbolsFor 14 (take 576 (drop (576 * p .phase) symbols)) p
+  row-taken : (size : ℕ) (xs : List Float) (p : Place) → length xs ≡ size → within n p ≡ true → rowRefusal size n xs p ≡ 0
+  unfolding rowRefusal
+  row-taken size xs p e w = rw (eq-eqb _ _ e, w)
 
-pub part-whole : (symbols : List Float) (p : Place) → length symbols ≡ 2304 → within 14 p ≡ true → length (partIn symbols p) ≡ 448
-part-whole symbols p l w =
-    let v = within-gives 14 p w in
-    let xs = drop (576 * p .phase) symbols in
-    let d : 576 ≤ length xs = rw (length-drop (576 * p .phase) symbols, l) (omega (arith, v .phase)) in
-    symbols-long 14 (take 576 xs) p (omega arith) (row-taken 576 (take 576 xs) p (length-take-le 576 xs d) w)
+  -- the symbols of a place, from those of all clock phases
+  abbrev pub partIn : List Float → Place → List Float
+  partIn symbols p = symbolsFor n (take 576 (drop (576 * p .phase) symbols)) p
 
-pub power-in : (symbols : List Float) (p : Place) (message : List ℕ) {part : List Float} (a : Power) → length symbols ≡ 2304 → within 14 p ≡ true
-    → length message ≡ 14 → part ≡ partIn symbols p → powerTold a ≡ powerAt part message → a ≡ Is (powerIn symbols p message)
-unfolding powerIn
-power-in symbols p message a l w m e f =
-    sym (power-back a) ∙ ap powerUntold (
-    f ∙ ap (λ (x : List Float). powerAt x message) e
-    ∙ power-done (partIn symbols p) message (part-whole symbols p l w) m
-    )
+  pub part-whole : (symbols : List Float) (p : Place) → length symbols ≡ 2304 → within n p ≡ true → length (partIn symbols p) ≡ 32 * n
+  part-whole symbols p l w =
+      let v = within-gives n p w in
+      let xs = drop (576 * p .phase) symbols in
+      let d : 576 ≤ length xs = rw (length-drop (576 * p .phase) symbols, l) (omega (arith, v .phase)) in
+      symbols-long n (take 576 xs) p (omega (arith, r .high)) (row-taken 576 (take 576 xs) p (length-take-le 576 xs d) w)
 
--- the powers at four places at once
-pub around-in : (symbols : List Float) (message : List ℕ) (p q s t : Place) {a b c d : List Float} {r : Around} → length symbols ≡ 2304
-    → within 14 p ≡ true → within 14 q ≡ true → within 14 s ≡ true → within 14 t ≡ true → length message ≡ 14
-    → a ≡ partIn symbols p → b ≡ partIn symbols q → c ≡ partIn symbols s → d ≡ partIn symbols t → r ≡ aroundAt a b c d message
-    → r ≡ record { number = 0; earliest = powerIn symbols p message; earlier = powerIn symbols q message; later = powerIn symbols s message; latest = powerIn symbols t message }
-unfolding aroundAt powerIn
-around-in symbols message p q s t l wp wq ws wt m ea eb ec ed er =
-    er ∙ rw (ea, eb, ec, ed, eq-eqb _ _ (part-whole symbols p l wp), eq-eqb _ _ (part-whole symbols q l wq), eq-eqb _ _ (part-whole symbols s l ws), eq-eqb _ _ (part-whole symbols t l wt), eq-eqb _ _ m)
+  pub power-in : (symbols : List Float) (p : Place) (message : List ℕ) {part : List Float} (a : Power) → length symbols ≡ 2304 → within n p ≡ true
+      → length message ≡ n → part ≡ partIn symbols p → powerTold a ≡ powerAt part message → a ≡ Is (powerIn k symbols p message)
+  unfolding powerIn
+  power-in symbols p message a l w m e f =
+      sym (power-back a) ∙ ap powerUntold (
+      f ∙ ap (λ (x : List Float). powerAt x message) e
+      ∙ power-done n message (r .whole) m (partIn symbols p) (part-whole symbols p l w)
+      )
 
-pub both-is : (samples row : List Float) (p : Place) (message : List ℕ) {a b : List Float} {r : Powers} → length samples ≡ 2310 → length row ≡ 576
-    → within 14 p ≡ true → length message ≡ 14 → a ≡ symbolsFor 14 row p → b ≡ samplesFor 14 samples p → r ≡ powersAt a b message
-    → r ≡ record { number = 0; prompt = powerOf 14 (symbolsFor 14 row p) message; noise = noiseOf 14 (samplesFor 14 samples p) message }
-unfolding powersAt
-both-is samples row p message l k w m ea eb er =
-    let x = symbols-long 14 row p (omega arith) (row-taken 576 row p k w) in
-    let y = samples-long 14 samples p (omega arith) (row-taken 2310 samples p l w) in
-    er ∙ rw (ea, eb, eq-eqb _ _ x, eq-eqb _ _ y, eq-eqb _ _ m)
+  -- the powers at four places at once
+  pub around-in : (symbols : List Float) (message : List ℕ) (p q s t : Place) {a b c d : List Float} {x : Around} → length symbols ≡ 2304
+      → within n p ≡ true → within n q ≡ true → within n s ≡ true → within n t ≡ true → length message ≡ n
+      → a ≡ partIn symbols p → b ≡ partIn symbols q → c ≡ partIn symbols s → d ≡ partIn symbols t → x ≡ aroundAt a b c d message
+      → x ≡ record { number = 0; earliest = powerIn k symbols p message; earlier = powerIn k symbols q message; later = powerIn k symbols s message; latest = powerIn k symbols t message }
+  unfolding powerIn
+  around-in symbols message p q s t l wp wq ws wt m ea eb ec ed er =
+      er ∙ rw (ea, eb, ec, ed) (around-done n message (r .whole) m _ _ _ _ (part-whole symbols p l wp) (part-whole symbols q l wq) (part-whole symbols s l ws) (part-whole symbols t l wt))
 
-streams-taken : (c n : List ℕ) (bit : ℕ) → length c ≡ 18 → length n ≡ 18 → bit ≤ 32 → streamsRefusal 14 c n bit ≡ 0
-unfolding streamsRefusal
-streams-taken c n bit a b h = simp (eq-eqb _ _ a, eq-eqb _ _ b, le-leb _ _ h)
+  pub both-is : (samples row : List Float) (p : Place) (message : List ℕ) {a b : List Float} {x : Powers} → length samples ≡ 2310 → length row ≡ 576
+      → within n p ≡ true → length message ≡ n → a ≡ symbolsFor n row p → b ≡ samplesFor n samples p → x ≡ powersAt a b message
+      → x ≡ record { number = 0; prompt = powerOf n (symbolsFor n row p) message; noise = noiseOf n (samplesFor n samples p) message }
+  both-is samples row p message l h w m ea eb er =
+      let x = symbols-long n row p (omega (arith, r .high)) (row-taken 576 row p h w) in
+      let y = samples-long n samples p (omega (arith, r .high)) (row-taken 2310 samples p l w) in
+      er ∙ rw (ea, eb) (powers-done n message (r .whole) m _ _ x y)
 
-corrected-done : (x : List ℕ) (ρ : Repairs) → length x ≡ 14 → inside 14 ρ ≡ true → corrected 14 ρ x ≡ (0, repaired x ρ)
-unfolding corrected
-corrected-done x ρ d j = rw (eq-eqb _ _ d, j)
+  streams-taken : (c d : List ℕ) (bit : ℕ) → Streams k c d bit → streamsRefusal n c d bit ≡ 0
+  unfolding streamsRefusal
+  streams-taken c d bit s = simp (eq-eqb _ _ (s .first .size), eq-eqb _ _ (s .second .size), le-leb _ _ (s .first .low))
 
-pub message-is : (c n : List ℕ) (bit : ℕ) (slicer : Slicer) (ρ : Repairs) {part last : List ℕ} {m : Message} {r : ℕ}
-    → length c ≡ 18 → length n ≡ 18 → bit ≤ 32 → inside 14 ρ ≡ true
-    → part ≡ slicerPart 14 c n bit slicer → m ≡ partMessage part bit → _≡_ {A = ℕ × List ℕ} (r, last) (corrected 14 ρ (m .bytes))
-    → last ≡ repaired (messageAt (chosen slicer c n) 14 bit) ρ
-message-is c n bit slicer ρ {part} {last} {m} a b h i e f g =
-    let s = chosen slicer c n in
-    let t = streams-taken c n bit a b h in
-    let l : length part ≡ partSize 14 bit = ap length e ∙ part-long 14 c n bit slicer (omega arith) t in
-    let q : messageAt part 14 (bit % 8) ≡ messageAt s 14 bit
-    = ap (λ (x : List ℕ). messageAt x 14 (bit % 8)) (e ∙ part-done 14 c n bit slicer t) ∙ Parting.message-part s 14 (partSize 14 bit) bit (Parting.enough 14 bit) in
-    let z : m .bytes ≡ messageAt s 14 bit = ap (λ (x : Message). x .bytes) (f ∙ Parting.part-done part bit l h) ∙ q in
-    ap (λ (x : ℕ × List ℕ). x .1) (g ∙ corrected-done (m .bytes) ρ (ap length z ∙ message-length s 14 bit) i) ∙ ap (λ (x : List ℕ). repaired x ρ) z
+  -- the bytes of a part of a stream, repaired
+  pub message-is : (c d : List ℕ) (bit : ℕ) (slicer : Slicer) (ρ : Repairs) {part bytes last : List ℕ} {x : ℕ}
+      → Streams k c d bit → inside n ρ ≡ true
+      → part ≡ slicerPart n c d bit slicer → bytes ≡ partMessage n part bit .bytes → _≡_ {A = ℕ × List ℕ} (x, last) (corrected ρ bytes)
+      → last ≡ repaired (messageAt (chosen slicer c d) n bit) ρ
+  message-is c d bit slicer ρ {part} {bytes} {last} w i e f g =
+      let s = chosen slicer c d in
+      let t = streams-taken c d bit w in
+      let l : length part ≡ partSize n bit = ap length e ∙ part-long n c d bit slicer (omega (arith, r .high)) t in
+      let q : messageAt part n (bit % 8) ≡ messageAt s n bit
+      = ap (λ (x : List ℕ). messageAt x n (bit % 8)) (e ∙ part-done n c d bit slicer t) ∙ Parting.message-part s n (partSize n bit) bit (Parting.enough n bit) in
+      let z : bytes ≡ messageAt s n bit = f ∙ ap (λ (x : Message). x .bytes) (Parting.part-done n part bit l (w .first .low)) ∙ q in
+      ap (λ (x : ℕ × List ℕ). x .1) (g ∙ corrected-done n bytes ρ (r .whole) (ap length z ∙ message-length s n bit) i) ∙ ap (λ (x : List ℕ). repaired x ρ) z

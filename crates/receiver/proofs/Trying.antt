@@ -2,16 +2,16 @@
 --     lookup-missed    nothing is found: the trial fails
 --     lookup-found     positions are found: the trial passes exactly if the header check says so
 -- Assumes nothing.
-use mathlib.Core.Path.{_≡_, sym, _∙_, subst}
+use mathlib.Core.Path.{_≡_, sym, ap, _∙_, subst}
 use mathlib.Core.Bool.{Bool, true, false, cond}
 use mathlib.Core.List.{List}
-use Prim.Native.Nat.{ℕ, _<_, _≤_}
+use Prim.Native.Nat.{ℕ, _<_}
+use native.Mathlib.Omega.{arith}
 use borrow.Author.Tests.{eq-eqb, ne-eqb}
-use lib.Dec.{eqb, lit<}
+use lib.Dec.{eqb}
 use lib.ListN.{length, getD}
 use Rattle.lists.specs.Told.{done}
 use Rattle.lists.proofs.Telling.{same-values, not-done}
-use Rattle.annex10.specs.Header.{longHeader}
 use Rattle.annex10.specs.Repair.{count, inside}
 use Rattle.annex10.specs.Any.{only}
 use Rattle.annex10.specs.declared.Repairs.{Repairs}
@@ -29,9 +29,10 @@ use Rattle.streams.proofs.Heading.{validity-done}
 use Rattle.search.specs.declared.Reading.{Reading}
 use Rattle.search.specs.declared.Tried.{Tried}
 use Rattle.search.specs.declared.Tried.the-variants.{Pass, Fail}
-use Rattle.search.specs.Kinds.{long}
+use Rattle.search.specs.Kinds.{Kind}
 use Rattle.search.specs.Trials.{checked}
-use Rattle.receiver.specs.Inner.{foundInside}
+use Rattle.receiver.specs.Inner.{Stream, foundInside}
+use Rattle.receiver.proofs.EitherKind.{Right}
 
 -- what a trial makes of a header check
 abbrev pub passIf : Validity → Reading → Tried
@@ -45,13 +46,13 @@ passed Invalid r e = rw (← same-values e)
 passed (Refused n) r e = absurd (not-done e)
 
 -- the check of a message's first byte is the check of the repaired message
-checked-head : (m : List ℕ) (number : ℕ) (slicer : Slicer) (ρ : Repairs) (v : Validity) → length m ≡ 14 → inside 14 ρ ≡ true
-    → validityTold v ≡ headerOf 14 longHeader (getD m 0 0) ρ
-    → passIf v (record { trial = number; slicer = slicer; repairs = ρ }) ≡ checked long number slicer m (At ρ)
-unfolding headerOf checked long
-checked-head m number slicer ρ v l e g =
-    let h : 0 < length m = subst (λ (k : ℕ). 0 < k) (sym l) (lit< tt) in
-    passed v _ (rw e at g) ∙ rw (head-is m ρ h)
+checked-head : (k : Kind) (m : List ℕ) (number : ℕ) (slicer : Slicer) (ρ : Repairs) (v : Validity) → 0 < length m → inside (k .bytes) ρ ≡ true
+    → validityTold v ≡ headerOf (k .bytes) (k .header) (getD m 0 0) ρ
+    → passIf v (record { trial = number; slicer = slicer; repairs = ρ }) ≡ checked k number slicer m (At ρ)
+unfolding headerOf checked
+checked-head k m number slicer ρ v h e g =
+    let r : Reading = record { trial = number; slicer = slicer; repairs = ρ } in
+    passed v r (rw e at g) ∙ ap (λ (b : ℕ). cond (k .header b) (Pass r) Fail) (sym (head-is m ρ h))
 
 -- what is found, if it is n positions
 pub only-hit : (f : Found) {ρ : Repairs} (n : ℕ) {k : ℕ} → f ≡ At ρ → k ≡ count ρ → n ≡ k → At ρ ≡ only f n
@@ -61,21 +62,23 @@ pub only-miss : (f : Found) {ρ : Repairs} (n : ℕ) {k : ℕ} → f ≡ At ρ �
 only-miss f n {k} e q h = rw e (rw (ne-eqb n _ (λ z. h (z ∙ sym q))))
 
 -- some of what is found lies inside where all of it does
-only-inside : (o : Found) (n : ℕ) {ρ : Repairs} → foundInside o ≡ true → only o n ≡ At ρ → inside 14 ρ ≡ true
-only-inside Nothing n h e = not-there e
-only-inside (At σ) n {ρ} h e = go (eqb n (count σ)) e
+only-inside : (k : Kind) (o : Found) (n : ℕ) {ρ : Repairs} → foundInside k o ≡ true → only o n ≡ At ρ → inside (k .bytes) ρ ≡ true
+only-inside k Nothing n h e = not-there e
+only-inside k (At σ) n {ρ} h e = go (eqb n (count σ)) e
   where
-    go : (b : Bool) → cond b (At σ) Nothing ≡ At ρ → inside 14 ρ ≡ true
-    go true q = let s : σ ≡ ρ = cc in subst (λ (x : Repairs). inside 14 x ≡ true) s h
+    go : (b : Bool) → cond b (At σ) Nothing ≡ At ρ → inside (k .bytes) ρ ≡ true
+    go true q = let s : σ ≡ ρ = cc in subst (λ (x : Repairs). inside (k .bytes) x ≡ true) s h
     go false q = not-there q
 
-module _ (stream : List ℕ) (bit number : ℕ) (slicer : Slicer) (n : ℕ) (o : Found) {f : Found} (e : f ≡ only o n) where
-  pub lookup-missed : f ≡ Nothing → Fail ≡ checked long number slicer (messageAt stream 14 bit) (only o n)
+module _ (k : Kind) (w : Right k) (stream : List ℕ) (bit number : ℕ) (slicer : Slicer) (n : ℕ) (o : Found) {f : Found} (e : f ≡ only o n) where
+  pub lookup-missed : f ≡ Nothing → Fail ≡ checked k number slicer (messageAt stream (k .bytes) bit) (only o n)
   unfolding checked
   lookup-missed z = rw (← e, z)
 
-  pub lookup-found : {ρ : Repairs} (v : Validity) → length stream ≡ 18 → bit ≤ 32 → foundInside o ≡ true → f ≡ At ρ → validityTold v ≡ validityAt stream bit ρ
-      → passIf v (record { trial = number; slicer = slicer; repairs = ρ }) ≡ checked long number slicer (messageAt stream 14 bit) (only o n)
-  lookup-found {ρ} v l b i z g =
+  pub lookup-found : {ρ : Repairs} (v : Validity) → Stream k stream bit → foundInside k o ≡ true → f ≡ At ρ
+      → validityTold v ≡ validityAt (k .bytes) (k .header) stream bit ρ
+      → passIf v (record { trial = number; slicer = slicer; repairs = ρ }) ≡ checked k number slicer (messageAt stream (k .bytes) bit) (only o n)
+  lookup-found {ρ} v s i z g =
       let q : only o n ≡ At ρ = sym e ∙ z in
-      rw q (checked-head (messageAt stream 14 bit) number slicer ρ v (message-length stream 14 bit) (only-inside o n i q) (g ∙ validity-done stream bit ρ l b))
+      let l : 0 < length (messageAt stream (k .bytes) bit) = rw (message-length stream (k .bytes) bit) (omega (arith, w .low)) in
+      rw q (checked-head k (messageAt stream (k .bytes) bit) number slicer ρ v l (only-inside k o n i q) (g ∙ validity-done (k .bytes) (k .header) stream bit ρ (s .size) (s .low)))

@@ -75,31 +75,31 @@ module _ (kind : Kind) (level : ℕ) (coherent noncoherent : List ℕ) (c d : �
       one-by-one _ _ _ _ _ _ (e1 ∙ ap (orTry Fail) (given-true _)) (e2 ∙ ap (orTry _) (given-true _)) e3 (e4 ∙ ap (orTry _) p) e5 (e6 ∙ ap (orTry _) q)
 
 -- with what clears the messages' own remainders the reading is that of the search
-module _ (level : ℕ) (coherent noncoherent : List ℕ) where
+module _ (kind : Kind) (level : ℕ) (coherent noncoherent : List ℕ) where
   -- a trial that the level asks for has what it looks for; another is not made
-  asked : (n number : ℕ) (slicer : Slicer) (bits : List ℕ) {c : Found} → Finds level (remainder bits) c
-      → given (leb n level) (checked long number slicer bits (only c n)) ≡ given (leb n level) (checked long number slicer bits (cleared long bits n))
-  unfolding cleared long
+  asked : (n number : ℕ) (slicer : Slicer) (bits : List ℕ) {c : Found} → Finds kind level (remainder bits) c
+      → given (leb n level) (checked kind number slicer bits (only c n)) ≡ given (leb n level) (checked kind number slicer bits (cleared kind bits n))
+  unfolding cleared
   asked n number slicer bits {c} f = go (leb n level) refl
     where
-      go : (b : Bool) → leb n level ≡ b → given b (checked long number slicer bits (only c n)) ≡ given b (checked long number slicer bits (cleared long bits n))
-      go true e = ap (λ (o : Found). given true (checked long number slicer bits o)) (f .each n (leb-true n level e))
-      go false e = unasked (checked long number slicer bits (only c n)) ∙ sym (unasked (checked long number slicer bits (cleared long bits n)))
+      go : (b : Bool) → leb n level ≡ b → given b (checked kind number slicer bits (only c n)) ≡ given b (checked kind number slicer bits (cleared kind bits n))
+      go true e = ap (λ (o : Found). given true (checked kind number slicer bits o)) (f .each n (leb-true n level e))
+      go false e = unasked (checked kind number slicer bits (only c n)) ∙ sym (unasked (checked kind number slicer bits (cleared kind bits n)))
 
-  within : (b : Bool) (n number : ℕ) (slicer : Slicer) (bits : List ℕ) {c : Found} → Finds level (remainder bits) c
-      → given (leb n level) (given b (checked long number slicer bits (only c n))) ≡ given (leb n level) (given b (checked long number slicer bits (cleared long bits n)))
+  within : (b : Bool) (n number : ℕ) (slicer : Slicer) (bits : List ℕ) {c : Found} → Finds kind level (remainder bits) c
+      → given (leb n level) (given b (checked kind number slicer bits (only c n))) ≡ given (leb n level) (given b (checked kind number slicer bits (cleared kind bits n)))
   within b n number slicer bits {c} f =
-      swap (leb n level) b (checked long number slicer bits (only c n)) ∙ ap (given b) (asked n number slicer bits f)
-      ∙ swap b (leb n level) (checked long number slicer bits (cleared long bits n))
+      swap (leb n level) b (checked kind number slicer bits (only c n)) ∙ ap (given b) (asked n number slicer bits f)
+      ∙ swap b (leb n level) (checked kind number slicer bits (cleared kind bits n))
 
-  at-once : (number : ℕ) (slicer : Slicer) (bits : List ℕ) {c : Found} → Finds level (remainder bits) c
-      → checked long number slicer bits (only c 0) ≡ checked long number slicer bits (cleared long bits 0)
-  unfolding cleared long
-  at-once number slicer bits f = ap (checked long number slicer bits) (f .each 0 (omega arith))
+  at-once : (number : ℕ) (slicer : Slicer) (bits : List ℕ) {c : Found} → Finds kind level (remainder bits) c
+      → checked kind number slicer bits (only c 0) ≡ checked kind number slicer bits (cleared kind bits 0)
+  unfolding cleared
+  at-once number slicer bits f = ap (checked kind number slicer bits) (f .each 0 (omega arith))
 
-  pub reading-by : {c d : Found} {apart : Bool} → Finds level (remainder coherent) c → Finds level (remainder noncoherent) d
+  pub reading-by : {c d : Found} {apart : Bool} → Finds kind level (remainder coherent) c → Finds kind level (remainder noncoherent) d
       → apart ≡ not (eqb (remainder coherent) (remainder noncoherent))
-      → first (sixTrials long level coherent noncoherent (only c) (only d) apart) ≡ reading long level coherent noncoherent
+      → first (sixTrials kind level coherent noncoherent (only c) (only d) apart) ≡ reading kind level coherent noncoherent
   unfolding reading trials sixTrials differ
   reading-by {c} {d} f g s =
       rw (
@@ -113,12 +113,14 @@ module _ (level : ℕ) (coherent noncoherent : List ℕ) where
       )
 
 -- what clears a remainder is known at every level
-any-inside : (r : ℕ) → foundInside (clearingAny 14 r) ≡ true
+any-inside : (r : ℕ) → foundInside long (clearingAny 14 r) ≡ true
+unfolding long
 any-inside r = go (clearingAny 14 r) refl
   where
-    go : (o : Found) → clearingAny 14 r ≡ o → foundInside o ≡ true
+    go : (o : Found) → clearingAny 14 r ≡ o → foundInside long o ≡ true
     go Nothing e = refl
     go (At ρ) e = proper-inside 14 ρ (any-found 14 r e .proper)
 
-pub any-finds : (level r : ℕ) {c : Found} → c ≡ clearingAny 14 r → Finds level r c
-any-finds level r e = record { each = λ n l. ap (λ (o : Found). only o n) e ∙ only-any 14 r apart-14 n; lies = ap foundInside e ∙ any-inside r }
+pub any-finds : (level r : ℕ) {c : Found} → c ≡ clearingAny 14 r → Finds long level r c
+unfolding long
+any-finds level r e = record { each = λ n l. ap (λ (o : Found). only o n) e ∙ only-any 14 r apart-14 n; lies = ap (foundInside long) e ∙ any-inside r }

@@ -1,29 +1,31 @@
 -- The surviving reading of a place, step by step as the code finds it.
 --     candidate-is              a reading with its message, power and cn0
 --     kept, gone                what the filter leaves
+--     few-kept                  fewer than two repairs are not dropped, whatever the distance
 --     filter-is                 the filter, for settings that are taken
 --     level-low                 their level is at most 2
 --     read-pass, read-fail      what survives
 -- Assumes nothing.
-use mathlib.Core.Path.{_≡_, refl, _∙_}
+use mathlib.Core.Path.{_≡_, refl, ap, _∙_}
 use mathlib.Core.Bool.{Bool, true, false, _&&_, cond}
 use mathlib.Core.List.{List}
+use mathlib.Core.Logic.{_≢_}
 use mathlib.Core.Option.{none, some}
 use Prim.Native.Nat.{ℕ, _≤_, min}
 use native.Mathlib.Omega.{arith}
-use borrow.Author.Tests.{leb-true}
+use native.Mathlib.Decide.{ℕ-discrete}
+use borrow.Author.Tests.{leb-true, ne-eqb}
 use lib.Dec.{leb}
 use lib.Ieee.{Float}
 use lib.Ieee.Scale.{finite}
 use Rattle.lists.specs.Told.{done, refused}
 use Rattle.lists.proofs.Telling.{same-values, not-done}
-use Rattle.annex10.specs.Repair.{inside, repaired}
+use Rattle.annex10.specs.Repair.{count, inside, repaired}
 use Rattle.annex10.proofs.Positions.{proper-inside}
 use Rattle.place.specs.declared.Place.{Place}
 use Rattle.parts.specs.Part.{symbolsFor, samplesFor, chosen}
 use Rattle.kernels.specs.Powers.{powerOf, noiseOf}
 use Rattle.streams.specs.Streams.{messageAt}
-use Rattle.streams.specs.Distances.{differing}
 use Rattle.cn0.specs.Estimate.{cn0Of}
 use Rattle.search.specs.declared.Settings.{Settings}
 use Rattle.search.specs.declared.Reading.{Reading}
@@ -32,12 +34,14 @@ use Rattle.search.specs.declared.Tried.the-variants as T
 use Rattle.search.specs.declared.Candidate.{Candidate}
 use Rattle.search.specs.declared.Survivor.{Survivor}
 use Rattle.search.specs.Trials.{reading}
+use Rattle.search.specs.Window.{Window}
 use Rattle.search.specs.Choice.{candidate, dropped, survivor, candidateAt}
-use Rattle.search.specs.Kinds.{long}
+use Rattle.search.specs.Kinds.{Kind, long}
 use Rattle.search.specs.Answers.{settingsNumber, survivorOf}
 use Rattle.search.proofs.Passing.{sound}
 use Rattle.choice.specs.Filtered.{filteredOf}
-use Rattle.receiver.specs.Inner.{seenAt}
+use Rattle.receiver.specs.Inner.{padded, wide, heldOf, seenAt}
+use Rattle.receiver.proofs.EitherKind.{Right}
 
 -- ---- the settings
 
@@ -59,45 +63,73 @@ pub filter-never : (s : Settings) (n : ℕ) (c : Candidate) {k : ℕ} → settin
 unfolding filteredOf
 filter-never s n c z e = not-done (rw z at e)
 
-pub kept : (c : Candidate) {b : Bool} → b ≡ false → record { number = 0; candidate = c } ≡ survivorOf (cond b none (some c))
+pub kept : (c : Candidate) {b : Bool} → b ≡ false → record { number = 0; candidate = c } ≡ survivorOf long (cond b none (some c))
 kept c e = rw e
 
-pub gone : (c : Candidate) {b : Bool} {r : Survivor} → b ≡ true → r ≡ survivorOf none → r ≡ survivorOf (cond b none (some c))
+pub gone : (c : Candidate) {b : Bool} {r : Survivor} → b ≡ true → r ≡ survivorOf long none → r ≡ survivorOf long (cond b none (some c))
 gone c e f = rw e f
 
-module _ (samples row : List Float) (coherent noncoherent : List ℕ) (p : Place) where
+few-kept : (s : Settings) (m n : ℕ) (c : Candidate) → count (c .repairs) ≢ 2 → dropped s m c ≡ dropped s n c
+unfolding dropped
+few-kept s m n c h = rw (ne-eqb (count (c .repairs)) 2 h)
+
+-- the room of a message plays no part
+wide-kept : (k : Kind) (b : Bool) (c : Candidate) → survivorOf long (cond b none (some (wide k c))) ≡ heldOf k (cond b none (some c))
+wide-kept k true c = refl
+wide-kept k false c = refl
+
+wide-dropped : (k : Kind) (s : Settings) (n : ℕ) (c : Candidate) → dropped s n (wide k c) ≡ dropped s n c
+unfolding dropped
+wide-dropped k s n c = refl
+
+module _ (k : Kind) (w : Right k) (samples row : List Float) (coherent noncoherent : List ℕ) (p : Place) where
+  abbrev n : ℕ
+  n = k .bytes
+
+  abbrev there : Window
+  there = seenAt k samples row coherent noncoherent
+
   -- ---- the candidate
-  pub candidate-is : (r : Reading) {message : List ℕ} {prompt noise x : Float}
-      → message ≡ repaired (messageAt (chosen (r .slicer) coherent noncoherent) 14 (p .bit)) (r .repairs)
-      → prompt ≡ powerOf 14 (symbolsFor 14 row p) message → noise ≡ noiseOf 14 (samplesFor 14 samples p) message → x ≡ cn0Of prompt noise
+  pub candidate-is : (r : Reading) {message bytes : List ℕ} {prompt noise x : Float}
+      → bytes ≡ repaired (messageAt (chosen (r .slicer) coherent noncoherent) n (p .bit)) (r .repairs) → message ≡ padded k bytes
+      → prompt ≡ powerOf n (symbolsFor n row p) bytes → noise ≡ noiseOf n (samplesFor n samples p) bytes → x ≡ cn0Of prompt noise
       → record { place = p; trial = r .trial; slicer = r .slicer; repairs = r .repairs; message = message; prompt = prompt; cn0 = x }
-      ≡ candidate (seenAt samples row coherent noncoherent) p r
+      ≡ wide k (candidate there p r)
   unfolding candidate seenAt
-  candidate-is r em ep en ex = rw (ex, ep, en, em)
+  candidate-is r eb em ep en ex = rw (ex, ep, en, em, eb)
 
   -- ---- the trials
 
   module _ (level : ℕ) where
     abbrev read : Tried
-    read = reading long level (messageAt coherent 14 (p .bit)) (messageAt noncoherent 14 (p .bit))
+    read = reading k level (messageAt coherent n (p .bit)) (messageAt noncoherent n (p .bit))
 
-    -- the positions of a reading lie in the message
-    pub reading-inside : {r : Reading} → read ≡ T.Pass r → inside 14 (r .repairs) ≡ true
-    unfolding long
-    reading-inside {r} e = proper-inside 14 (r .repairs) (sound long level _ _ .so r e .proper)
+    -- the positions of a reading lie in the message, and are no more than the level allows
+    pub reading-inside : {r : Reading} → read ≡ T.Pass r → inside n (r .repairs) ≡ true
+    reading-inside {r} e = proper-inside n (r .repairs) (sound k level _ _ .so r e .proper)
+
+    pub reading-few : {r : Reading} → read ≡ T.Pass r → count (r .repairs) ≤ level
+    reading-few {r} e = sound k level _ _ .so r e .within
 
   -- ---- what survives
 
-  module _ (s : Settings) (l : s .level ≤ 2) where
-    lowest : min (s .level) 2 ≡ s .level
-    lowest = omega arith
+  module _ (s : Settings) where
+    abbrev level : ℕ
+    level = min (s .level) (k .most)
 
-    pub read-pass : {r : Reading} {a : Candidate} {x : Survivor} → read (s .level) ≡ T.Pass r → a ≡ candidate (seenAt samples row coherent noncoherent) p r
-        → x ≡ survivorOf (cond (dropped s (differing (messageAt coherent 14 (p .bit)) (messageAt noncoherent 14 (p .bit)) 112) a) none (some a))
-        → x ≡ survivorOf (candidateAt long s (seenAt samples row coherent noncoherent) p)
-    unfolding candidateAt survivor long seenAt
-    read-pass e ea ex = rw (lowest, e) (ex ∙ rw ea)
+    pub read-pass : {r : Reading} {a : Candidate} {x : Survivor} (m : ℕ) → (count (r .repairs) ≡ 2 → m ≡ there .distance p)
+        → read level ≡ T.Pass r → a ≡ wide k (candidate there p r)
+        → x ≡ survivorOf long (cond (dropped s m a) none (some a)) → x ≡ heldOf k (candidateAt k s there p)
+    unfolding candidateAt survivor seenAt candidate
+    read-pass {r} m d e ea ex =
+        rw e (ex ∙ rw (ea, there-dropped) (wide-kept k (dropped s (there .distance p) (candidate there p r)) (candidate there p r)))
+      where
+        there-dropped : dropped s m (wide k (candidate there p r)) ≡ dropped s (there .distance p) (candidate there p r)
+        there-dropped = elim (ℕ-discrete (count (r .repairs)) 2) [
+          | yes h ↦ ap (λ (i : ℕ). dropped s i (wide k (candidate there p r))) (d h) ∙ wide-dropped k s (there .distance p) (candidate there p r)
+          | no h ↦ wide-dropped k s m (candidate there p r) ∙ few-kept s m (there .distance p) (candidate there p r) h
+        ]
 
-    pub read-fail : {x : Survivor} → read (s .level) ≡ T.Fail → x ≡ survivorOf none → x ≡ survivorOf (candidateAt long s (seenAt samples row coherent noncoherent) p)
-    unfolding candidateAt survivor long seenAt
-    read-fail e ex = rw (lowest, e) ex
+    pub read-fail : {x : Survivor} → read level ≡ T.Fail → x ≡ survivorOf long none → x ≡ heldOf k (candidateAt k s there p)
+    unfolding candidateAt survivor seenAt
+    read-fail e ex = rw e ex

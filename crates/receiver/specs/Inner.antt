@@ -2,11 +2,11 @@
 -- Assumes nothing.
 use mathlib.Core.Path.{_≡_}
 use mathlib.Core.Bool.{Bool, true, not, cond}
-use mathlib.Core.List.{List, [], foldl}
-use mathlib.Core.Option.{Option}
+use mathlib.Core.List.{List, [], _++_, foldl}
+use mathlib.Core.Option.{Option, none, some}
 use Prim.Native.Nat.{ℕ, _+_, _-_, _*_, _/_, _%_, _<_, _≤_}
 use lib.Dec.{eqb, leb}
-use lib.ListN.{length, getD, take, drop}
+use lib.ListN.{length, getD, take, drop, replicate}
 use lib.Ieee.{Float, lt}
 use Rattle.annex10.specs.Remainder.{remainder}
 use Rattle.annex10.specs.Any.{only}
@@ -15,9 +15,12 @@ use Rattle.annex10.specs.declared.Repairs.{Repairs}
 use Rattle.annex10.specs.declared.Repairs.the-variants.{None, One, Two}
 use Rattle.annex10.specs.declared.Found.{Found}
 use Rattle.annex10.specs.declared.Found.the-variants.{At, Nothing}
+use Rattle.mode_s.specs.declared.message.MessageKind.{MessageKind}
+use Rattle.mode_s.specs.declared.message.MessageKind.the-variants.{Short, Long}
 use Rattle.place.specs.declared.Place.{Place}
 use Rattle.place.specs.declared.Slicer.the-variants.{Coherent, Noncoherent}
 use Rattle.place.specs.Step.{sampleStart, startingAt}
+use Rattle.place.specs.All.{listed}
 use Rattle.parts.specs.Part.{symbolsFor, samplesFor, chosen}
 use Rattle.math.specs.Parabola.{parabola}
 use Rattle.kernels.specs.declared.around.Around.{Around}
@@ -35,24 +38,95 @@ use Rattle.timing.specs.Subsample.{fractionOf, timingOf}
 use Rattle.search.specs.declared.Tried.{Tried}
 use Rattle.search.specs.declared.Tried.the-variants.{Pass, Fail}
 use Rattle.search.specs.declared.Candidate.{Candidate}
+use Rattle.search.specs.declared.Survivor.{Survivor}
 use Rattle.search.specs.declared.Arrival.{Arrival}
+use Rattle.search.specs.declared.Answer.{Answer}
+use Rattle.search.specs.Kinds.{Kind, long, short}
 use Rattle.search.specs.Window.{Window}
 use Rattle.search.specs.Choice.{better}
 use Rattle.search.specs.When.{timingAt, indexOf}
+use Rattle.search.specs.Answers.{survivorOf, refusedAnswer}
+
+-- ---- the kind, by its name in the code
+
+abbrev pub kindOf : MessageKind → Kind
+kindOf Long = long
+kindOf Short = short
+
+-- the bit of a message that every header of its kind has set: formats 17 and 18 the first, format 11 the second
+abbrev pub leadOf : MessageKind → ℕ
+leadOf Long = 0
+leadOf Short = 1
+
+-- ---- room for 14 bytes
+
+-- a message with zeros behind it
+unfoldable pub padded : Kind → List ℕ → List ℕ
+padded k message = message ++ replicate (14 - k .bytes) 0
+
+abbrev pub wide : Kind → Candidate → Candidate
+wide k c =
+    record {
+      place = c .place;
+      trial = c .trial;
+      slicer = c .slicer;
+      repairs = c .repairs;
+      message = padded k (c .message);
+      prompt = c .prompt;
+      cn0 = c .cn0;
+    }
+
+-- what is found, with such a message
+abbrev pub heldOf : Kind → Option Candidate → Survivor
+heldOf k none = survivorOf long none
+heldOf k (some c) = survivorOf long (some (wide k c))
+
+-- the first seven bytes of it
+abbrev pub cutSurvivor : Survivor → Survivor
+cutSurvivor x =
+    let c = x .candidate in
+    record {
+      number = x .number;
+      candidate =
+          record {
+            place = c .place;
+            trial = c .trial;
+            slicer = c .slicer;
+            repairs = c .repairs;
+            message = take 7 (c .message);
+            prompt = c .prompt;
+            cn0 = c .cn0;
+          };
+    }
+
+abbrev pub cutAnswer : Answer → Answer
+cutAnswer a =
+    record {
+      number = a .number;
+      place = a .place;
+      message = take 7 (a .message);
+      repairs = a .repairs;
+      slicer = a .slicer;
+      cn0 = a .cn0;
+      index = a .index;
+      fraction = a .fraction;
+    }
+
+-- ---- timing
 
 -- the power of a message at a place, from the symbols of all clock phases
-unfoldable pub powerIn : List Float → Place → List ℕ → Float
-powerIn symbols p message = powerOf 14 (symbolsFor 14 (take 576 (drop (576 * p .phase) symbols)) p) message
+unfoldable pub powerIn : Kind → List Float → Place → List ℕ → Float
+powerIn k symbols p message = powerOf (k .bytes) (symbolsFor (k .bytes) (take 576 (drop (576 * p .phase) symbols)) p) message
 
 -- its powers one and two clock phases either way of sample s
-unfoldable pub aroundIn : List Float → List ℕ → ℕ → Around
-aroundIn symbols message s =
+unfoldable pub aroundIn : Kind → List Float → List ℕ → ℕ → Around
+aroundIn k symbols message s =
     record {
       number = 0;
-      earliest = powerIn symbols (startingAt (s - 2)) message;
-      earlier = powerIn symbols (startingAt (s - 1)) message;
-      later = powerIn symbols (startingAt (s + 1)) message;
-      latest = powerIn symbols (startingAt (s + 2)) message;
+      earliest = powerIn k symbols (startingAt (s - 2)) message;
+      earlier = powerIn k symbols (startingAt (s - 1)) message;
+      later = powerIn k symbols (startingAt (s + 1)) message;
+      latest = powerIn k symbols (startingAt (s + 2)) message;
     }
 
 -- the timing by its power and those around it: the earlier one takes over, then the later one
@@ -64,41 +138,76 @@ timedBy x a =
     (cond (lt x (a .later)) on (timingOf (fractionOf (parabola (a .earlier) x (a .later)) Same)))
 
 -- all that timing looks at
-unfoldable pub seenIn : List Float → Window
-seenIn symbols = record { bits = λ slicer p. []; distance = λ p. 0; prompt = powerIn symbols; cn0 = powerIn symbols }
+unfoldable pub seenIn : Kind → List Float → Window
+seenIn k symbols = record { bits = λ slicer p. []; distance = λ p. 0; prompt = powerIn k symbols; cn0 = powerIn k symbols }
+
+-- when a message came, from the symbols
+unfoldable pub arrivalIn : Kind → List Float → Place → List ℕ → ℕ → Arrival
+arrivalIn k symbols p message index =
+    let t = timingAt (seenIn k symbols) message (sampleStart p) in
+    record { number = 0; index = indexOf index (sampleStart p) (t .moves); fraction = t .fraction }
+
+-- what is found lies at a place that is searched, and has its power there
+pub record Weighed (k : Kind) (symbols : List Float) (x : Survivor) : Type 0 where
+  pub place : x .number ≡ 0 → listed (k .last) (x .candidate .place) ≡ true
+  pub power : x .number ≡ 0 → x .candidate .prompt ≡ powerIn k symbols (x .candidate .place) (take (k .bytes) (x .candidate .message))
+
+-- what is found, with its time
+unfoldable pub answerIn : Kind → List Float → ℕ → Survivor → Answer
+answerIn k symbols index x =
+    let c = x .candidate in
+    let t = arrivalIn k symbols (c .place) (take (k .bytes) (c .message)) index in
+    cond (eqb (x .number) 0)
+    (record {
+      number = 0;
+      place = c .place;
+      message = c .message;
+      repairs = c .repairs;
+      slicer = c .slicer;
+      cn0 = c .cn0;
+      index = t .index;
+      fraction = t .fraction;
+    })
+    (refusedAnswer long 1)
+
+-- ---- the search
 
 -- what the scan has made of the samples
-pub record Scanned (samples : List Float) (coherent noncoherent crcs others : List ℕ) : Type 0 where
+pub record Scanned (k : Kind) (samples : List Float) (coherent noncoherent crcs others : List ℕ) : Type 0 where
   pub whole : length samples ≡ 2310
   pub first : coherent ≡ bitsFrom Coherent samples
   pub second : noncoherent ≡ bitsFrom Noncoherent samples
-  pub first-crcs : crcs ≡ crcsIn 14 (bitsFrom Coherent samples) 248
-  pub second-crcs : others ≡ crcsIn 14 (bitsFrom Noncoherent samples) 248
+  pub first-crcs : crcs ≡ crcsIn (k .bytes) (bitsFrom Coherent samples) (8 * k .last)
+  pub second-crcs : others ≡ crcsIn (k .bytes) (bitsFrom Noncoherent samples) (8 * k .last)
 
 -- all that a search looks at
-pub record Ready (samples symbols : List Float) (coherent noncoherent crcs others : List ℕ) : Type 0 where
-  pub scanned : Scanned samples coherent noncoherent crcs others
+pub record Ready (k : Kind) (samples symbols : List Float) (coherent noncoherent crcs others : List ℕ) : Type 0 where
+  pub scanned : Scanned k samples coherent noncoherent crcs others
   pub sums : symbols ≡ symbolsOf samples
 
 -- the best of some places, given by their numbers, held on from h
 unfoldable pub over : (Place → Option Candidate) → (ℕ → Place) → Option Candidate → List ℕ → Option Candidate
 over f at h ks = foldl (λ held k. better held (f (at k))) h ks
 
--- two streams, and a bit offset in them
-pub record Streams (coherent noncoherent : List ℕ) (bit : ℕ) : Type 0 where
-  pub first : length coherent ≡ 18
-  pub second : length noncoherent ≡ 18
-  pub low : bit ≤ 32
+-- a stream, and a bit offset at which a message ends within it
+pub record Stream (k : Kind) (stream : List ℕ) (bit : ℕ) : Type 0 where
+  pub size : length stream ≡ 18
+  pub low : bit ≤ 144 - 8 * k .bytes
 
--- positions that are found lie in a message of 14 bytes
-abbrev pub foundInside : Found → Bool
-foundInside Nothing = true
-foundInside (At ρ) = inside 14 ρ
+-- two streams
+pub record Streams (k : Kind) (coherent noncoherent : List ℕ) (bit : ℕ) : Type 0 where
+  pub first : Stream k coherent bit
+  pub second : Stream k noncoherent bit
+
+-- positions that are found lie in a message
+abbrev pub foundInside : Kind → Found → Bool
+foundInside k Nothing = true
+foundInside k (At ρ) = inside (k .bytes) ρ
 
 -- what clears a remainder, as far as a level asks for it
-pub record Finds (level r : ℕ) (c : Found) : Type 0 where
-  pub each : (n : ℕ) → n ≤ level → only c n ≡ clearing 14 n r
-  pub lies : foundInside c ≡ true
+pub record Finds (k : Kind) (level r : ℕ) (c : Found) : Type 0 where
+  pub each : (n : ℕ) → n ≤ level → only c n ≡ clearing (k .bytes) n r
+  pub lies : foundInside k c ≡ true
 
 -- what a code says: its positions, and what clears
 unfoldable pub repairsOf : ℕ → Repairs
@@ -112,37 +221,32 @@ unfoldable pub foundBy : ℕ → ℕ → Found
 foundBy r code = cond (eqb r 0) (At None) (foundOf code)
 
 -- a list of places, with the codes of what clears the two messages of each
-pub record Listing (level : ℕ) (crcs others list codes : List ℕ) (count : ℕ) : Type 0 where
-  pub few : count ≤ 248
-  pub places : length list ≡ 248
-  pub many : length codes ≡ 496
-  pub low : (q : ℕ) → q < count → getD list q 0 < 248
+pub record Listing (k : Kind) (level : ℕ) (crcs others list codes : List ℕ) (count : ℕ) : Type 0 where
+  pub few : count ≤ 8 * k .last
+  pub places : length list ≡ 8 * k .last
+  pub many : length codes ≡ 16 * k .last
+  pub low : (q : ℕ) → q < count → getD list q 0 < 8 * k .last
   pub first : (q : ℕ) → q < count
-      → Finds level (getD crcs (laneOf (getD list q 0)) 0) (foundBy (getD crcs (laneOf (getD list q 0)) 0) (getD codes (2 * q) 0))
+      → Finds k level (getD crcs (laneOf (getD list q 0)) 0) (foundBy (getD crcs (laneOf (getD list q 0)) 0) (getD codes (2 * q) 0))
   pub second : (q : ℕ) → q < count
-      → Finds level (getD others (laneOf (getD list q 0)) 0) (foundBy (getD others (laneOf (getD list q 0)) 0) (getD codes (2 * q + 1) 0))
+      → Finds k level (getD others (laneOf (getD list q 0)) 0) (foundBy (getD others (laneOf (getD list q 0)) 0) (getD codes (2 * q + 1) 0))
 
 -- what clears the two messages there, and whether their remainders differ
-pub record Known (level : ℕ) (coherent noncoherent : List ℕ) (bit : ℕ) (c d : Found) (apart : Bool) : Type 0 where
-  pub first : Finds level (remainder (messageAt coherent 14 bit)) c
-  pub second : Finds level (remainder (messageAt noncoherent 14 bit)) d
-  pub differ : apart ≡ not (eqb (remainder (messageAt coherent 14 bit)) (remainder (messageAt noncoherent 14 bit)))
+pub record Known (k : Kind) (level : ℕ) (coherent noncoherent : List ℕ) (bit : ℕ) (c d : Found) (apart : Bool) : Type 0 where
+  pub first : Finds k level (remainder (messageAt coherent (k .bytes) bit)) c
+  pub second : Finds k level (remainder (messageAt noncoherent (k .bytes) bit)) d
+  pub differ : apart ≡ not (eqb (remainder (messageAt coherent (k .bytes) bit)) (remainder (messageAt noncoherent (k .bytes) bit)))
 
 -- what is seen at a place, from the row and the streams in which it lies
-unfoldable pub seenAt : List Float → List Float → List ℕ → List ℕ → Window
-seenAt samples row coherent noncoherent =
+unfoldable pub seenAt : Kind → List Float → List Float → List ℕ → List ℕ → Window
+seenAt k samples row coherent noncoherent =
+    let n = k .bytes in
     record {
-      bits = λ slicer p. messageAt (chosen slicer coherent noncoherent) 14 (p .bit);
-      distance = λ p. differing (messageAt coherent 14 (p .bit)) (messageAt noncoherent 14 (p .bit)) 112;
-      prompt = λ p message. powerOf 14 (symbolsFor 14 row p) message;
-      cn0 = λ p message. cn0Of (powerOf 14 (symbolsFor 14 row p) message) (noiseOf 14 (samplesFor 14 samples p) message);
+      bits = λ slicer p. messageAt (chosen slicer coherent noncoherent) n (p .bit);
+      distance = λ p. differing (messageAt coherent n (p .bit)) (messageAt noncoherent n (p .bit)) (8 * n);
+      prompt = λ p message. powerOf n (symbolsFor n row p) message;
+      cn0 = λ p message. cn0Of (powerOf n (symbolsFor n row p) message) (noiseOf n (samplesFor n samples p) message);
     }
-
--- when a message came, from the symbols
-unfoldable pub arrivalIn : List Float → Place → List ℕ → ℕ → Arrival
-arrivalIn symbols p message index =
-    let t = timingAt (seenIn symbols) message (sampleStart p) in
-    record { number = 0; index = indexOf index (sampleStart p) (t .moves); fraction = t .fraction }
 
 -- a trial counts only where none before it passed
 unfoldable pub orTry : Tried → Tried → Tried

@@ -1,4 +1,6 @@
 // The surviving reading of a place, from the row and the streams of its clock phase and symbol offset.
+use crate::kinds::bytes_of;
+use crate::kinds::level_of;
 use crate::message::message_at;
 use crate::powers::both_powers;
 use crate::six::try_six;
@@ -8,6 +10,7 @@ use choice::best::repairs_of;
 use choice::filter::Filtered;
 use choice::filter::filter_out_decode_candidate;
 use cn0::estimate_cn0;
+use mode_s::message::MessageKind;
 use place::Place;
 use place::Slicer;
 use search::Candidate;
@@ -20,19 +23,20 @@ use streams::distance::compute_hamming_distance;
 ghost use mathlib.Core.Path.{_≡_};
 ghost use mathlib.Core.Bool.{true, cond};
 ghost use mathlib.Core.Option.{none, some};
+ghost use Prim.Native.Nat.{min};
 ghost use lib.ListN.{length};
-ghost use Rattle.annex10.specs.Repair.{inside};
+ghost use Rattle.annex10.specs.Repair.{count, inside};
 ghost use Rattle.place.specs.Step.{within};
 ghost use Rattle.streams.specs.Streams.{messageAt};
 ghost use Rattle.streams.specs.Distances.{differing};
 ghost use Rattle.search.specs.Choice.{candidate, dropped, candidateAt};
 ghost use Rattle.search.specs.Kinds.{long};
 ghost use Rattle.search.specs.Answers.{settingsNumber, noCandidate, survivorOf};
-ghost use Rattle.receiver.specs.Inner.{Streams, Known, seenAt};
+ghost use Rattle.receiver.specs.Inner.{Streams, Known, kindOf, seenAt, wide, heldOf};
 
 // No reading, and the number that says why.
 pub fn unread(number: u32) -> Survivor
-    ensures { λ r. ⌜ r ≡ record { number = number; candidate = noCandidate } ⌝ }
+    ensures { λ r. ⌜ r ≡ record { number = number; candidate = noCandidate long } ⌝ }
 {
     Survivor {
         number,
@@ -54,13 +58,13 @@ pub fn unread(number: u32) -> Survivor
 
 // Nothing is held.
 pub fn nothing() -> Survivor
-    ensures { λ r. ⌜ r ≡ survivorOf none ⌝ }
+    ensures { λ r. ⌜ r ≡ survivorOf long none ⌝ }
 {
     unread(1)
 }
 
 fn distance_at(coherent: &[u8], noncoherent: &[u8], bit: usize) -> u32
-    requires { ⌜ Streams (now coherent) (now noncoherent) bit ⌝ }
+    requires { ⌜ Streams long (now coherent) (now noncoherent) bit ⌝ }
     ensures { λ r. ⌜ r ≡ differing (messageAt (now (coherent .entry)) 14 bit) (messageAt (now (noncoherent .entry)) 14 bit) 112 ⌝ }
 {
     match compute_hamming_distance(coherent, noncoherent, bit) {
@@ -71,6 +75,7 @@ fn distance_at(coherent: &[u8], noncoherent: &[u8], bit: usize) -> u32
 
 // A reading at a place, with its message, power and cn0.
 fn candidate_of<'a>(
+    kind: MessageKind,
     samples: &[f32],
     row: &[f32],
     coherent: &'a [u8],
@@ -78,14 +83,15 @@ fn candidate_of<'a>(
     place: Place,
     reading: Reading,
 ) -> Candidate
-    requires { ⌜ (length (now samples) ≡ 2310) × (length (now row) ≡ 576) × Streams (now coherent) (now noncoherent) (place .bit) × (within 14 place ≡ true) × (inside 14 (reading .repairs) ≡ true) ⌝ }
-    ensures { λ r. ⌜ r ≡ candidate (seenAt (now (samples .entry)) (now (row .entry)) (now (coherent .entry)) (now (noncoherent .entry))) place reading ⌝ }
+    requires { ⌜ (length (now samples) ≡ 2310) × (length (now row) ≡ 576) × Streams (kindOf kind) (now coherent) (now noncoherent) (place .bit) × (within (kindOf kind .bytes) place ≡ true) × (inside (kindOf kind .bytes) (reading .repairs) ≡ true) ⌝ }
+    ensures { λ r. ⌜ r ≡ wide (kindOf kind) (candidate (seenAt (kindOf kind) (now (samples .entry)) (now (row .entry)) (now (coherent .entry)) (now (noncoherent .entry))) place reading) ⌝ }
 {
     let bit = place.bit;
     let slicer = reading.slicer;
     let repairs = reading.repairs;
-    let message = message_at(coherent, noncoherent, bit, slicer, repairs);
-    let powers = both_powers(samples, row, place, message);
+    let message = message_at(kind, coherent, noncoherent, bit, slicer, repairs);
+    let bytes = bytes_of(kind);
+    let powers = both_powers(kind, samples, row, place, &message[..bytes]);
     let prompt = powers.prompt;
     let cn0 = estimate_cn0(prompt, powers.noise);
     Candidate {
@@ -109,10 +115,10 @@ fn is_dropped(s: Settings, differing: u32, c: Candidate) -> bool
     }
 }
 
-// The slicers' distance is asked for only where it can matter.
+// The slicers' distance is asked for only where it can matter: only long messages are repaired twice.
 fn survives(s: Settings, coherent: &[u8], noncoherent: &[u8], bit: usize, c: Candidate) -> Survivor
-    requires { ⌜ Streams (now coherent) (now noncoherent) bit × (settingsNumber s ≡ 0) ⌝ }
-    ensures { λ r. ⌜ r ≡ survivorOf (cond (dropped s (differing (messageAt (now (coherent .entry)) 14 bit) (messageAt (now (noncoherent .entry)) 14 bit) 112) c) none (some c)) ⌝ }
+    requires { ⌜ (count (c .repairs) ≡ 2 → Streams long (now coherent) (now noncoherent) bit) × (settingsNumber s ≡ 0) ⌝ }
+    ensures { λ r. ⌜ r ≡ survivorOf long (cond (dropped s (differing (messageAt (now (coherent .entry)) 14 bit) (messageAt (now (noncoherent .entry)) 14 bit) 112) c) none (some c)) ⌝ }
 {
     let repairs = c.repairs;
     if repairs_of(repairs) != 2 {
@@ -132,6 +138,7 @@ fn survives(s: Settings, coherent: &[u8], noncoherent: &[u8], bit: usize, c: Can
 
 // The surviving reading of a place: c and d are what clears its two messages, apart whether their remainders differ.
 pub fn read_streams<'a>(
+    kind: MessageKind,
     samples: &[f32],
     row: &[f32],
     coherent: &'a [u8],
@@ -142,18 +149,18 @@ pub fn read_streams<'a>(
     d: Found,
     apart: bool,
 ) -> Survivor
-    requires { ⌜ (length (now samples) ≡ 2310) × (length (now row) ≡ 576) × Streams (now coherent) (now noncoherent) (place .bit) × (within 14 place ≡ true) × (settingsNumber s ≡ 0) × Known (s .level) (now coherent) (now noncoherent) (place .bit) c d apart ⌝ }
-    ensures { λ r. ⌜ r ≡ survivorOf (candidateAt long s (seenAt (now (samples .entry)) (now (row .entry)) (now (coherent .entry)) (now (noncoherent .entry))) place) ⌝ }
+    requires { ⌜ (length (now samples) ≡ 2310) × (length (now row) ≡ 576) × Streams (kindOf kind) (now coherent) (now noncoherent) (place .bit) × (within (kindOf kind .bytes) place ≡ true) × (settingsNumber s ≡ 0) × Known (kindOf kind) (min (s .level) (kindOf kind .most)) (now coherent) (now noncoherent) (place .bit) c d apart ⌝ }
+    ensures { λ r. ⌜ r ≡ heldOf (kindOf kind) (candidateAt (kindOf kind) s (seenAt (kindOf kind) (now (samples .entry)) (now (row .entry)) (now (coherent .entry)) (now (noncoherent .entry))) place) ⌝ }
 {
     let bit = place.bit;
-    let level = s.level;
-    match try_six(level, coherent, noncoherent, bit, c, d, apart) {
+    let level = level_of(kind, s.level);
+    match try_six(kind, level, coherent, noncoherent, bit, c, d, apart) {
         Tried::Pass(reading) => survives(
             s,
             coherent,
             noncoherent,
             bit,
-            candidate_of(samples, row, coherent, noncoherent, place, reading),
+            candidate_of(kind, samples, row, coherent, noncoherent, place, reading),
         ),
         Tried::Fail => nothing(),
     }

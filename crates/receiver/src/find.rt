@@ -2,7 +2,9 @@
 use crate::candidate::nothing;
 use crate::candidate::read_streams;
 use crate::codes::bit_errors_by;
+use crate::kinds::numbered;
 use choice::best::choose;
+use mode_s::message::MessageKind;
 use place::Place;
 use place::Stepped;
 use scan::stream::find_stream;
@@ -11,16 +13,15 @@ use search::Survivor;
 ghost use mathlib.Core.Path.{_≡_};
 ghost use mathlib.Core.Bool.{true};
 ghost use mathlib.Core.Option.{none};
-ghost use Prim.Native.Nat.{_-_, _<_, _≤_};
+ghost use Prim.Native.Nat.{_-_, _*_, _<_, min};
 ghost use lib.ListN.{length, getD, take};
 ghost use Rattle.place.specs.Step.{sampleStart};
 ghost use Rattle.place.specs.All.{listed, placeAt};
 ghost use Rattle.scan.specs.Lanes.{laneBytes};
 ghost use Rattle.search.specs.Choice.{candidateAt};
-ghost use Rattle.search.specs.Kinds.{long};
-ghost use Rattle.search.specs.Seen.{windowOf};
-ghost use Rattle.search.specs.Answers.{settingsNumber, survivorOf};
-ghost use Rattle.receiver.specs.Inner.{Ready, Finds, foundBy, Listing, over};
+ghost use Rattle.search.specs.Seen.{seen};
+ghost use Rattle.search.specs.Answers.{settingsNumber};
+ghost use Rattle.receiver.specs.Inner.{Ready, Finds, kindOf, foundBy, Listing, heldOf, over};
 
 // The stream of a lane.
 fn lane_of(bits: &[u8], lane: usize) -> [u8; 18]
@@ -35,6 +36,7 @@ fn lane_of(bits: &[u8], lane: usize) -> [u8; 18]
 // The surviving reading of a place. Its row of symbols is lent and its two streams are made here; c and d are the codes of what clears
 // its two messages.
 pub fn read_at(
+    kind: MessageKind,
     samples: &[f32],
     symbols: &[f32],
     coherent: &[u8],
@@ -46,8 +48,8 @@ pub fn read_at(
     s: Settings,
     place: Place,
 ) -> Survivor
-    requires { ⌜ Ready (now samples) (now symbols) (now coherent) (now noncoherent) (now crcs) (now others) × (listed 31 place ≡ true) × (settingsNumber s ≡ 0) × Finds (s .level) (getD (now crcs) (sampleStart place - 8) 0) (foundBy (getD (now crcs) (sampleStart place - 8) 0) c) × Finds (s .level) (getD (now others) (sampleStart place - 8) 0) (foundBy (getD (now others) (sampleStart place - 8) 0) d) ⌝ }
-    ensures { λ r. ⌜ r ≡ survivorOf (candidateAt long s (windowOf 14 (now (samples .entry))) place) ⌝ }
+    requires { ⌜ Ready (kindOf kind) (now samples) (now symbols) (now coherent) (now noncoherent) (now crcs) (now others) × (listed (kindOf kind .last) place ≡ true) × (settingsNumber s ≡ 0) × Finds (kindOf kind) (min (s .level) (kindOf kind .most)) (getD (now crcs) (sampleStart place - 8) 0) (foundBy (getD (now crcs) (sampleStart place - 8) 0) c) × Finds (kindOf kind) (min (s .level) (kindOf kind .most)) (getD (now others) (sampleStart place - 8) 0) (foundBy (getD (now others) (sampleStart place - 8) 0) d) ⌝ }
+    ensures { λ r. ⌜ r ≡ heldOf (kindOf kind) (candidateAt (kindOf kind) s (seen (kindOf kind) (now (samples .entry))) place) ⌝ }
 {
     let phase = place.phase;
     let lane = 4 * place.symbol + phase;
@@ -59,6 +61,7 @@ pub fn read_at(
     let from = 576 * phase;
     let to = from + 576;
     read_streams(
+        kind,
         samples,
         &symbols[from..to],
         &first,
@@ -72,11 +75,11 @@ pub fn read_at(
 }
 
 // One of the places that are searched, by its number.
-fn place_at(k: usize) -> Place
-    requires { ⌜ k < 248 ⌝ }
+fn place_at(kind: MessageKind, k: usize) -> Place
+    requires { ⌜ k < 8 * kindOf kind .last ⌝ }
     ensures { λ r. ⌜ r ≡ placeAt k ⌝ }
 {
-    match Place::at(k) {
+    match numbered(kind, k) {
         Stepped::To(p) => p,
         Stepped::Refused(_) => Place::FIRST,
     }
@@ -84,24 +87,26 @@ fn place_at(k: usize) -> Place
 
 // The best of the places in a list.
 pub fn find(
+    kind: MessageKind,
     samples: &[f32],
     symbols: &[f32],
     coherent: &[u8],
     noncoherent: &[u8],
     crcs: &[u32],
     others: &[u32],
-    list: &[u8],
+    list: &[u16],
     codes: &[u32],
     count: usize,
     s: Settings,
 ) -> Survivor
-    requires { ⌜ Ready (now samples) (now symbols) (now coherent) (now noncoherent) (now crcs) (now others) × Listing (s .level) (now crcs) (now others) (now list) (now codes) count × (settingsNumber s ≡ 0) ⌝ }
-    ensures { λ r. ⌜ r ≡ survivorOf (over (candidateAt long s (windowOf 14 (now (samples .entry)))) placeAt none (take count (now (list .entry)))) ⌝ }
+    requires { ⌜ Ready (kindOf kind) (now samples) (now symbols) (now coherent) (now noncoherent) (now crcs) (now others) × Listing (kindOf kind) (min (s .level) (kindOf kind .most)) (now crcs) (now others) (now list) (now codes) count × (settingsNumber s ≡ 0) ⌝ }
+    ensures { λ r. ⌜ r ≡ heldOf (kindOf kind) (over (candidateAt (kindOf kind) s (seen (kindOf kind) (now (samples .entry)))) placeAt none (take count (now (list .entry)))) ⌝ }
 {
     let mut held = nothing();
     let mut q: usize = 0;
     while q < count {
         let new = read_at(
+            kind,
             samples,
             symbols,
             coherent,
@@ -111,7 +116,7 @@ pub fn find(
             codes[2 * q],
             codes[2 * q + 1],
             s,
-            place_at(list[q] as usize),
+            place_at(kind, list[q] as usize),
         );
         held = choose(held, new);
         q += 1;

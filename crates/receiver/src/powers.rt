@@ -1,8 +1,9 @@
 // The powers of a message at a place.
+use crate::kinds::samples_part;
+use crate::kinds::symbols_part;
 use kernels::both::Powers;
 use kernels::both::postdecode_powers;
-use parts::samples_for_place;
-use parts::symbols_for_place;
+use mode_s::message::MessageKind;
 use place::Place;
 ghost use mathlib.Core.Path.{_≡_};
 ghost use mathlib.Core.Bool.{true};
@@ -10,13 +11,20 @@ ghost use lib.ListN.{length};
 ghost use Rattle.kernels.specs.Powers.{powerOf, noiseOf};
 ghost use Rattle.place.specs.Step.{within};
 ghost use Rattle.parts.specs.Part.{symbolsFor, samplesFor};
+ghost use Rattle.receiver.specs.Inner.{kindOf};
 
 // In the pulses, and beside them from the window's samples.
-pub fn both_powers(samples: &[f32], row: &[f32], place: Place, message: [u8; 14]) -> Powers
-    requires { ⌜ (length (now samples) ≡ 2310) × (length (now row) ≡ 576) × (within 14 place ≡ true) ⌝ }
-    ensures { λ r. ⌜ r ≡ record { number = 0; prompt = powerOf 14 (symbolsFor 14 (now (row .entry)) place) message; noise = noiseOf 14 (samplesFor 14 (now (samples .entry)) place) message } ⌝ }
+pub fn both_powers(
+    kind: MessageKind,
+    samples: &[f32],
+    row: &[f32],
+    place: Place,
+    message: &[u8],
+) -> Powers
+    requires { ⌜ (length (now samples) ≡ 2310) × (length (now row) ≡ 576) × (within (kindOf kind .bytes) place ≡ true) × (length (now message) ≡ kindOf kind .bytes) ⌝ }
+    ensures { λ r. ⌜ r ≡ record { number = 0; prompt = powerOf (kindOf kind .bytes) (symbolsFor (kindOf kind .bytes) (now (row .entry)) place) (now (message .entry)); noise = noiseOf (kindOf kind .bytes) (samplesFor (kindOf kind .bytes) (now (samples .entry)) place) (now (message .entry)) } ⌝ }
 {
-    let symbols_part = symbols_for_place(row, place);
-    let samples_part = samples_for_place(samples, place);
-    postdecode_powers(symbols_part, samples_part, &message)
+    let symbols = symbols_part(kind, row, place);
+    let beside = samples_part(kind, samples, place);
+    postdecode_powers(symbols, beside, message)
 }

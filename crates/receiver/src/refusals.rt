@@ -1,10 +1,13 @@
 // What the calls refuse: the lowest number that applies.
+use crate::kinds::is_listed;
 use choice::settings::check_index;
 use choice::settings::check_settings;
+use mode_s::message::MessageKind;
 use place::Place;
 use search::Settings;
 ghost use mathlib.Core.Path.{_≡_};
 ghost use Rattle.search.specs.Answers.{windowNumber, settingsNumber, indexNumber, placeNumber, orNumber};
+ghost use Rattle.receiver.specs.Inner.{kindOf};
 
 // A window that has not 2,310 numbers is refused with 2.
 fn check_window(samples: &[f32]) -> u32
@@ -16,11 +19,11 @@ fn check_window(samples: &[f32]) -> u32
     0
 }
 
-// A place that is not one of the 248 is refused with 7.
-fn check_place(place: Place) -> u32
-    ensures { λ r. ⌜ r ≡ placeNumber place ⌝ }
+// A place that is not one of those that are searched is refused with 7.
+fn check_place(kind: MessageKind, place: Place) -> u32
+    ensures { λ r. ⌜ r ≡ placeNumber (kindOf kind) place ⌝ }
 {
-    if !place.is_listed() {
+    if !is_listed(kind, place) {
         return 7;
     }
     0
@@ -33,12 +36,12 @@ fn or_number(n: u32, m: u32) -> u32
     if n == 0 { m } else { n }
 }
 
-pub fn read_number(samples: &[f32], s: Settings, place: Place) -> u32
-    ensures { λ r. ⌜ r ≡ orNumber (windowNumber (now (samples .entry))) (orNumber (settingsNumber s) (placeNumber place)) ⌝ }
+pub fn read_number(kind: MessageKind, samples: &[f32], s: Settings, place: Place) -> u32
+    ensures { λ r. ⌜ r ≡ orNumber (windowNumber (now (samples .entry))) (orNumber (settingsNumber s) (placeNumber (kindOf kind) place)) ⌝ }
 {
     or_number(
         check_window(samples),
-        or_number(check_settings(s), check_place(place)),
+        or_number(check_settings(s), check_place(kind, place)),
     )
 }
 
@@ -48,12 +51,12 @@ pub fn best_number(samples: &[f32], s: Settings) -> u32
     or_number(check_window(samples), check_settings(s))
 }
 
-pub fn time_number(samples: &[f32], place: Place, index: u64) -> u32
-    ensures { λ r. ⌜ r ≡ orNumber (windowNumber (now (samples .entry))) (orNumber (indexNumber index) (placeNumber place)) ⌝ }
+pub fn time_number(kind: MessageKind, samples: &[f32], place: Place, index: u64) -> u32
+    ensures { λ r. ⌜ r ≡ orNumber (windowNumber (now (samples .entry))) (orNumber (indexNumber index) (placeNumber (kindOf kind) place)) ⌝ }
 {
     or_number(
         check_window(samples),
-        or_number(check_index(index), check_place(place)),
+        or_number(check_index(index), check_place(kind, place)),
     )
 }
 

@@ -1,14 +1,14 @@
 // The six trials at a bit offset of two streams, where what clears the two messages is known.
 use crate::trial::then_try;
 use annex10::Found;
+use mode_s::message::MessageKind;
 use place::Slicer;
 use search::Tried;
 ghost use mathlib.Core.Path.{_≡_};
 ghost use mathlib.Core.Bool.{_&&_};
 ghost use Rattle.streams.specs.Streams.{messageAt};
-ghost use Rattle.search.specs.Kinds.{long};
 ghost use Rattle.search.specs.Trials.{reading};
-ghost use Rattle.receiver.specs.Inner.{Streams, Known};
+ghost use Rattle.receiver.specs.Inner.{Streams, Known, kindOf};
 
 fn both(a: bool, b: bool) -> bool
     ensures { λ r. ⌜ r ≡ a && b ⌝ }
@@ -21,6 +21,7 @@ fn both(a: bool, b: bool) -> bool
 
 // The first of the six that passes: c and d are what clears the two messages, apart whether their remainders differ.
 pub fn try_six(
+    kind: MessageKind,
     level: u32,
     coherent: &[u8],
     noncoherent: &[u8],
@@ -29,17 +30,47 @@ pub fn try_six(
     d: Found,
     apart: bool,
 ) -> Tried
-    requires { ⌜ Streams (now coherent) (now noncoherent) bit × Known level (now coherent) (now noncoherent) bit c d apart ⌝ }
-    ensures { λ r. ⌜ r ≡ reading long level (messageAt (now (coherent .entry)) 14 bit) (messageAt (now (noncoherent .entry)) 14 bit) ⌝ }
+    requires { ⌜ Streams (kindOf kind) (now coherent) (now noncoherent) bit × Known (kindOf kind) level (now coherent) (now noncoherent) bit c d apart ⌝ }
+    ensures { λ r. ⌜ r ≡ reading (kindOf kind) level (messageAt (now (coherent .entry)) (kindOf kind .bytes) bit) (messageAt (now (noncoherent .entry)) (kindOf kind .bytes) bit) ⌝ }
 {
     let three = level >= 1;
     let four = both(three, apart);
     let five = level >= 2;
     let six = both(five, apart);
-    let t = then_try(Tried::Fail, true, 1, Slicer::Coherent, coherent, bit, c, 0);
-    let t = then_try(t, true, 2, Slicer::Noncoherent, noncoherent, bit, d, 0);
-    let t = then_try(t, three, 3, Slicer::Coherent, coherent, bit, c, 1);
-    let t = then_try(t, four, 4, Slicer::Noncoherent, noncoherent, bit, d, 1);
-    let t = then_try(t, five, 5, Slicer::Coherent, coherent, bit, c, 2);
-    then_try(t, six, 6, Slicer::Noncoherent, noncoherent, bit, d, 2)
+    let t = then_try(
+        kind,
+        Tried::Fail,
+        true,
+        1,
+        Slicer::Coherent,
+        coherent,
+        bit,
+        c,
+        0,
+    );
+    let t = then_try(
+        kind,
+        t,
+        true,
+        2,
+        Slicer::Noncoherent,
+        noncoherent,
+        bit,
+        d,
+        0,
+    );
+    let t = then_try(kind, t, three, 3, Slicer::Coherent, coherent, bit, c, 1);
+    let t = then_try(
+        kind,
+        t,
+        four,
+        4,
+        Slicer::Noncoherent,
+        noncoherent,
+        bit,
+        d,
+        1,
+    );
+    let t = then_try(kind, t, five, 5, Slicer::Coherent, coherent, bit, c, 2);
+    then_try(kind, t, six, 6, Slicer::Noncoherent, noncoherent, bit, d, 2)
 }

@@ -1,20 +1,18 @@
 // One trial: the positions that are found, and the header of the message that they repair.
+use crate::kinds::header_at;
 use annex10::Found;
 use choice::best::repairs_of;
 use mode_s::header::Validity;
+use mode_s::message::MessageKind;
 use place::Slicer;
 use search::Reading;
 use search::Tried;
-use streams::header::df_is_valid_extended_squitter;
 ghost use mathlib.Core.Path.{_≡_};
 ghost use mathlib.Core.Bool.{true};
-ghost use Prim.Native.Nat.{_≤_};
-ghost use lib.ListN.{length};
 ghost use Rattle.annex10.specs.Any.{only};
 ghost use Rattle.streams.specs.Streams.{messageAt};
-ghost use Rattle.search.specs.Kinds.{long};
 ghost use Rattle.search.specs.Trials.{checked, given};
-ghost use Rattle.receiver.specs.Inner.{foundInside, orTry};
+ghost use Rattle.receiver.specs.Inner.{Stream, kindOf, foundInside, orTry};
 
 // What is found, if it is n positions.
 fn only(found: Found, n: u32) -> Found
@@ -30,14 +28,22 @@ fn only(found: Found, n: u32) -> Found
 }
 
 // The message at a bit offset of a stream with n positions repaired, those that clear it being given.
-fn try_one(number: u8, slicer: Slicer, stream: &[u8], bit: usize, found: Found, n: u32) -> Tried
-    requires { ⌜ (length (now stream) ≡ 18) × (bit ≤ 32) × (foundInside found ≡ true) ⌝ }
-    ensures { λ r. ⌜ r ≡ checked long number slicer (messageAt (now (stream .entry)) 14 bit) (only found n) ⌝ }
+fn try_one(
+    kind: MessageKind,
+    number: u8,
+    slicer: Slicer,
+    stream: &[u8],
+    bit: usize,
+    found: Found,
+    n: u32,
+) -> Tried
+    requires { ⌜ Stream (kindOf kind) (now stream) bit × (foundInside (kindOf kind) found ≡ true) ⌝ }
+    ensures { λ r. ⌜ r ≡ checked (kindOf kind) number slicer (messageAt (now (stream .entry)) (kindOf kind .bytes) bit) (only found n) ⌝ }
 {
     let Found::At(repairs) = only(found, n) else {
         return Tried::Fail;
     };
-    match df_is_valid_extended_squitter(stream, bit, repairs) {
+    match header_at(kind, stream, bit, repairs) {
         Validity::Valid => Tried::Pass(Reading {
             trial: number,
             slicer,
@@ -51,6 +57,7 @@ fn try_one(number: u8, slicer: Slicer, stream: &[u8], bit: usize, found: Found, 
 
 // One trial more, if none before it passed and it is to be made.
 pub fn then_try(
+    kind: MessageKind,
     before: Tried,
     made: bool,
     number: u8,
@@ -60,8 +67,8 @@ pub fn then_try(
     found: Found,
     n: u32,
 ) -> Tried
-    requires { ⌜ (length (now stream) ≡ 18) × (bit ≤ 32) × (foundInside found ≡ true) ⌝ }
-    ensures { λ r. ⌜ r ≡ orTry before (given made (checked long number slicer (messageAt (now (stream .entry)) 14 bit) (only found n))) ⌝ }
+    requires { ⌜ Stream (kindOf kind) (now stream) bit × (foundInside (kindOf kind) found ≡ true) ⌝ }
+    ensures { λ r. ⌜ r ≡ orTry before (given made (checked (kindOf kind) number slicer (messageAt (now (stream .entry)) (kindOf kind .bytes) bit) (only found n))) ⌝ }
 {
     let Tried::Fail = before else {
         return before;
@@ -69,5 +76,5 @@ pub fn then_try(
     if !made {
         return Tried::Fail;
     }
-    try_one(number, slicer, stream, bit, found, n)
+    try_one(kind, number, slicer, stream, bit, found, n)
 }

@@ -2,6 +2,7 @@
 use crate::six::try_six;
 use annex10::Found;
 use annex10::Repairs;
+use mode_s::message::MessageKind;
 use place::Place;
 use repairs::double_bit_error_from_crc24;
 use repairs::single_bit_error_from_crc24;
@@ -77,5 +78,14 @@ pub fn try_decode(level: u32, coherent: &[u8], noncoherent: &[u8], bit: usize) -
     let d = crc_at(noncoherent, bit);
     let first = bit_errors(c);
     let second = bit_errors(d);
-    Attempt::Is(try_six(level, coherent, noncoherent, bit, first, second, c != d))
+    Attempt::Is(try_six(
+        MessageKind::Long,
+        level,
+        coherent,
+        noncoherent,
+        bit,
+        first,
+        second,
+        c != d,
+    ))
 }

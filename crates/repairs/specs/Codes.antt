@@ -2,21 +2,22 @@
 -- Assumes nothing.
 use mathlib.Core.Bool.{cond}
 use mathlib.Core.List.{List}
-use Prim.Native.Nat.{ℕ}
+use Prim.Native.Nat.{ℕ, min}
 use lib.Dec.{eqb, leb}
 use lib.ListN.{length, getD}
 use Rattle.lists.specs.From.{tabulate}
 use Rattle.annex10.specs.Any.{clearingUpTo}
 use Rattle.annex10.specs.Codes.{codeOf}
 
--- the code of one remainder of a 14-byte message
-unfoldable pub codeUpTo : ℕ → ℕ → ℕ
-codeUpTo level r = codeOf (clearingUpTo 14 level r)
+-- the code of one remainder of a message of n bytes
+unfoldable pub codeUpTo : ℕ → ℕ → ℕ → ℕ
+codeUpTo n level r = codeOf (clearingUpTo n level r)
 
--- the codes of many; as many codes as remainders, else 3; a level above 2: 4
-unfoldable pub codesUpTo : ℕ → List ℕ → List ℕ
-codesUpTo level crcs = tabulate (length crcs) (λ (i : ℕ). codeUpTo level (getD crcs i 0))
+-- the codes of many
+unfoldable pub codesUpTo : ℕ → ℕ → List ℕ → List ℕ
+codesUpTo n level crcs = tabulate (length crcs) (λ (i : ℕ). codeUpTo n level (getD crcs i 0))
 
-unfoldable pub codesUpToInto : ℕ → List ℕ → List ℕ → ℕ × List ℕ
-codesUpToInto level crcs codes =
-    cond (eqb (length codes) (length crcs)) (cond (leb level 2) (0, codesUpTo level crcs) (4, codes)) (3, codes)
+-- with at most as many positions as the level and the kind of message allow; as many codes as remainders, else 3; a level above 2: 4
+unfoldable pub codesUpToInto : ℕ → ℕ → ℕ → List ℕ → List ℕ → ℕ × List ℕ
+codesUpToInto n most level crcs codes =
+    cond (eqb (length codes) (length crcs)) (cond (leb level 2) (0, codesUpTo n (min level most) crcs) (4, codes)) (3, codes)

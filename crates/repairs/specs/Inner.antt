@@ -1,10 +1,13 @@
 -- What private functions rest on: no public contract cites it.
--- The rules of the sorted tables: an entry is a remainder in front of the 8 bits of a position.
+-- The rules of the sorted tables: an entry is a remainder in front of the 8 bits of a position. And the codes of 7 bytes by those of 14.
 -- Assumes nothing.
 use mathlib.Core.Path.{_≡_}
+use mathlib.Core.Bool.{cond}
 use mathlib.Core.List.{List}
-use Prim.Native.Nat.{ℕ, _/_, _%_, _^_, _<_, _≤_}
+use Prim.Native.Nat.{ℕ, _-_, _*_, _/_, _%_, _^_, _<_, _≤_}
+use lib.Dec.{ltb}
 use lib.ListN.{getD, length}
+use Rattle.lists.specs.From.{tabulate}
 use Rattle.annex10.specs.declared.Repairs.the-variants.{One, Two}
 use Rattle.annex10.specs.Repair.{Proper, pattern}
 
@@ -40,3 +43,10 @@ pub record DoubleTable (part : ℕ) (t second : List ℕ) : Type 0 where
   pub right : (i : ℕ) → i < length t → pattern 14 (Two (positionAt t i) (getD second i 0)) ≡ remainderAt t i
   pub there : (j k : ℕ) → Proper 14 (Two j k) → pattern 14 (Two j k) / 2 ^ 20 ≡ part
       → (i : ℕ) × (i < length t) × (remainderAt t i ≡ pattern 14 (Two j k))
+
+-- the code of what clears 7 bytes, from that of at most one position that clears 14: its first 56 are not there
+unfoldable pub shortCode : ℕ → ℕ
+shortCode code = cond (ltb code 65535) (cond (ltb code (56 * 256)) 65536 (code - 56 * 256)) code
+
+unfoldable pub shortCodes : List ℕ → List ℕ
+shortCodes codes = tabulate (length codes) (λ (i : ℕ). shortCode (getD codes i 0))

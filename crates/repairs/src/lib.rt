@@ -1,4 +1,4 @@
-// The positions of one or two wrong bits of a 14-byte message, from its remainder.
+// The positions of one or two wrong bits of a 14-byte message, from its remainder, and of one of a 7-byte message.
 mod codes;
 mod parts;
 pub mod rows;

@@ -1,5 +1,7 @@
 -- Laws of remainders that are added up bit by bit.
---     power-law, power-lt     the rule of a table is one computed test; its numbers are below 2^32
+--     power-law               the rule of a table is one computed test
+--     power-at, power-lt      what a bit of n bytes adds stands there; it is below 2^32
+--     times-bit               a power times a bit
 --     mul-fits                a number times a bit is not greater
 --     zeros-at                an array before its first store
 --     Partial                 eight sums of which the first t have bit j
@@ -40,15 +42,21 @@ power-law t h =
       each = λ j g. eqb→eq (getD t j 0) (divide 1 (replicate (135 - j) 0)) (at test t (both-right (eqb (length t) 112) (every test 0 t) h) j (subst (λ (n : ℕ). j < n) (sym l) g));
     }
 
-pub power-lt : (t : List ℕ) → PowerTable t → (j : ℕ) → j < 112 → getD t j 0 < 2 ^ 32
-power-lt t w j h = rw (w .each j h) (lt-trans (shift-lt (135 - j) 1 (lit< tt)) (lit< tt))
+-- what bit j of n bytes adds
+pub power-at : (t : List ℕ) → PowerTable t → (n j : ℕ) → n ≤ 14 → j < 8 * n → getD t (112 - 8 * n + j) 0 ≡ divide 1 (replicate (8 * n + 23 - j) 0)
+power-at t w n j h g =
+    let e : 135 - (112 - 8 * n + j) ≡ 8 * n + 23 - j = omega arith in
+    w .each (112 - 8 * n + j) (omega arith) ∙ ap (λ (m : ℕ). divide 1 (replicate m 0)) e
+
+pub power-lt : (t : List ℕ) → PowerTable t → (n j : ℕ) → n ≤ 14 → j < 8 * n → getD t (112 - 8 * n + j) 0 < 2 ^ 32
+power-lt t w n j h g = rw (power-at t w n j h g) (lt-trans (shift-lt (8 * n + 23 - j) 1 (lit< tt)) (lit< tt))
 
 shift-zero : (m : ℕ) → shift m 0 ≡ 0
 shift-zero zero = refl
 shift-zero (suc m) = shift-zero m
 
 -- a bit's own power, or nothing
-times-bit : (m b : ℕ) → b < 2 → divide 1 (replicate m 0) * b ≡ shift m b
+pub times-bit : (m b : ℕ) → b < 2 → divide 1 (replicate m 0) * b ≡ shift m b
 times-bit m zero h = mul-zero (divide 1 (replicate m 0)) ∙ sym (shift-zero m)
 times-bit m (suc zero) h = mul-one (divide 1 (replicate m 0))
 times-bit m (suc (suc b)) h = omega arith

@@ -1,6 +1,6 @@
 -- The list of the places that are let through.
 --     clean-bit, exact-bit      the marks, as the code computes them
---     marks-of                  a mark is 0 or 1, and there are 248
+--     marks-of                  a mark is 0 or 1, and there are as many as places
 --     mark-is                   where the mark of a place stands
 --     kept-same                 two tests that are the same
 --     exact-kept                the marked places are the exact ones
@@ -14,7 +14,7 @@ use mathlib.Core.Bool.{Bool, true, false, _&&_, _||_}
 use mathlib.Core.List.{List, [], _++_}
 use Prim.Native.Nat.{ℕ, zero, suc, _+_, _*_, _/_, _%_, _<_, _≤_}
 use native.Mathlib.Numerals.{add-one}
-use native.Mathlib.Decide.{ℕ-discrete}
+use native.Mathlib.Decide.{ℕ-discrete, decLt}
 use native.Mathlib.Omega.{arith}
 use borrow.Author.Tests.{eq-eqb}
 use lib.Bits.{bitOr, bitAnd, or-add-and, and-le-l, and-le-r}
@@ -43,24 +43,23 @@ and-bits false false = refl
 pub clean-bit : (crc bit : ℕ) {x y : ℕ} → x ≡ asBit (eqb crc 0) → y ≡ asBit (eqb bit 1) → bitAnd x y ≡ asBit (eqb crc 0 && eqb bit 1)
 clean-bit crc bit e g = rw (e, g) (and-bits (eqb crc 0) (eqb bit 1))
 
-pub exact-bit : (coherent noncoherent crcs others : List ℕ) (i : ℕ) {x y : ℕ}
-    → x ≡ asBit (eqb (getD crcs i 0) 0 && eqb (getD coherent (i + 8) 0) 1)
-    → y ≡ asBit (eqb (getD others i 0) 0 && eqb (getD noncoherent (i + 8) 0) 1)
-    → bitOr x y ≡ exactMark coherent noncoherent crcs others i
+pub exact-bit : (lead : ℕ) (coherent noncoherent crcs others : List ℕ) (i : ℕ) {x y : ℕ}
+    → x ≡ asBit (eqb (getD crcs i 0) 0 && eqb (getD coherent (8 + i + 8 * lead) 0) 1)
+    → y ≡ asBit (eqb (getD others i 0) 0 && eqb (getD noncoherent (8 + i + 8 * lead) 0) 1)
+    → bitOr x y ≡ exactMark lead coherent noncoherent crcs others i
 unfolding exactMark cleanAt
-exact-bit coherent noncoherent crcs others i e g =
-    let s : i + 8 ≡ 8 + i = omega arith in
-    rw (e, g, s) (or-bits (eqb (getD crcs i 0) 0 && eqb (getD coherent (8 + i) 0) 1) (eqb (getD others i 0) 0 && eqb (getD noncoherent (8 + i) 0) 1))
+exact-bit lead coherent noncoherent crcs others i e g =
+    rw (e, g) (or-bits (eqb (getD crcs i 0) 0 && eqb (getD coherent (8 + i + 8 * lead) 0) 1) (eqb (getD others i 0) 0 && eqb (getD noncoherent (8 + i + 8 * lead) 0) 1))
 
-pub marks-of : (coherent noncoherent crcs others : List ℕ) {marks : List ℕ} → marks ≡ exactMarks coherent noncoherent crcs others → Marks marks
+pub marks-of : (lead many : ℕ) (coherent noncoherent crcs others : List ℕ) {marks : List ℕ} → marks ≡ exactMarks lead many coherent noncoherent crcs others → Marks many marks
 unfolding exactMarks exactMark
-marks-of coherent noncoherent crcs others e =
-    let f : ℕ → ℕ = λ (i : ℕ). asBit (cleanAt coherent crcs i || cleanAt noncoherent others i) in
-    subst Marks (sym e) (record {
-      size = length-tabulate 248 f;
-      each = λ i. elim (ℕ-discrete (i / 248) 0) [
-        | yes inside ↦ rw (getD-tabulate 248 f i 0 (omega arith)) (asBit-lt (cleanAt coherent crcs i || cleanAt noncoherent others i))
-        | no outside ↦ rw (List·getD-eq-default (tabulate 248 f) 0 {n = i} (rw (length-tabulate 248 f) (omega arith))) (lit< tt)
+marks-of lead many coherent noncoherent crcs others e =
+    let f : ℕ → ℕ = λ (i : ℕ). asBit (cleanAt lead coherent crcs i || cleanAt lead noncoherent others i) in
+    subst (Marks many) (sym e) (record {
+      size = length-tabulate many f;
+      each = λ i. elim (decLt i many) [
+        | yes inside ↦ rw (getD-tabulate many f i 0 inside) (asBit-lt (cleanAt lead coherent crcs i || cleanAt lead noncoherent others i))
+        | no outside ↦ rw (List·getD-eq-default (tabulate many f) 0 {n = i} (rw (length-tabulate many f) (omega arith))) (lit< tt)
       ];
     })
 
@@ -71,9 +70,9 @@ eq-one zero h = refl
 eq-one (suc zero) h = refl
 eq-one (suc (suc b)) h = omega arith
 
-pub mark-is : (marks : List ℕ) → Marks marks → (o k : ℕ) → k < 8 → getD marks (8 * o + 4 * (k % 2) + k / 2) 0 ≡ asBit (marked marks (8 * o + k))
+pub mark-is : (many : ℕ) (marks : List ℕ) → Marks many marks → (o k : ℕ) → k < 8 → getD marks (8 * o + 4 * (k % 2) + k / 2) 0 ≡ asBit (marked marks (8 * o + k))
 unfolding marked
-mark-is marks w o k h =
+mark-is many marks w o k h =
     ap (λ (i : ℕ). getD marks i 0) (lane-is o k h) ∙ eq-one (getD marks (laneOf (8 * o + k)) 0) (w .each (laneOf (8 * o + k)))
 
 pub kept-same : (f g : ℕ → Bool) (n : ℕ) → ((k : ℕ) → k < n → f k ≡ g k) → kept f n ≡ kept g n
@@ -85,15 +84,15 @@ eq-bit : (t : Bool) → eqb (asBit t) 1 ≡ t
 eq-bit true = refl
 eq-bit false = refl
 
-pub exact-kept : (coherent noncoherent crcs others : List ℕ) {marks : List ℕ} → marks ≡ exactMarks coherent noncoherent crcs others
-    → kept (marked marks) 248 ≡ kept (exact coherent noncoherent crcs others) 248
+pub exact-kept : (lead m : ℕ) (coherent noncoherent crcs others : List ℕ) {marks : List ℕ} → marks ≡ exactMarks lead (8 * m) coherent noncoherent crcs others
+    → kept (marked marks) (8 * m) ≡ kept (exact lead coherent noncoherent crcs others) (8 * m)
 unfolding marked exact exactMarks exactMark
-exact-kept coherent noncoherent crcs others {marks} e =
-    let f : ℕ → ℕ = λ (i : ℕ). asBit (cleanAt coherent crcs i || cleanAt noncoherent others i) in
-    kept-same (λ (k : ℕ). eqb (getD marks (laneOf k) 0) 1) (λ (k : ℕ). cleanAt coherent crcs (laneOf k) || cleanAt noncoherent others (laneOf k)) 248
+exact-kept lead m coherent noncoherent crcs others {marks} e =
+    let f : ℕ → ℕ = λ (i : ℕ). asBit (cleanAt lead coherent crcs i || cleanAt lead noncoherent others i) in
+    kept-same (λ (k : ℕ). eqb (getD marks (laneOf k) 0) 1) (λ (k : ℕ). cleanAt lead coherent crcs (laneOf k) || cleanAt lead noncoherent others (laneOf k)) (8 * m)
     (λ k h.
-    rw e (ap (λ (x : ℕ). eqb x 1) (getD-tabulate 248 f (laneOf k) 0 (lane-lt 31 k h))
-    ∙ eq-bit (cleanAt coherent crcs (laneOf k) || cleanAt noncoherent others (laneOf k))))
+    rw e (ap (λ (x : ℕ). eqb x 1) (getD-tabulate (8 * m) f (laneOf k) 0 (lane-lt m k h))
+    ∙ eq-bit (cleanAt lead coherent crcs (laneOf k) || cleanAt lead noncoherent others (laneOf k))))
 
 -- ---- where no place is marked
 
@@ -112,10 +111,10 @@ any-none marks (suc n) e k h =
       | no before ↦ any-none marks n (omega (arith, or-add-and a b, and-le-r a b, e)) k (omega arith)
     ]
 
-pub none-kept : (marks : List ℕ) {r : ℕ} → r ≡ anyOf marks 248 → r ≡ 0 → kept (marked marks) 248 ≡ []
+pub none-kept : (m : ℕ) (marks : List ℕ) {r : ℕ} → r ≡ anyOf marks (8 * m) → r ≡ 0 → kept (marked marks) (8 * m) ≡ []
 unfolding marked
-none-kept marks e z =
-    kept-none (λ (k : ℕ). eqb (getD marks (laneOf k) 0) 1) 248 (λ k h. rw (any-none marks 248 (sym e ∙ z) (laneOf k) (lane-lt 31 k h)))
+none-kept m marks e z =
+    kept-none (λ (k : ℕ). eqb (getD marks (laneOf k) 0) 1) (8 * m) (λ k h. rw (any-none marks (8 * m) (sym e ∙ z) (laneOf k) (lane-lt m k h)))
 
 -- ---- the list
 
@@ -140,7 +139,8 @@ pub listed-is : (ks list : List ℕ) {n : ℕ} {t out : List ℕ} → n ≡ leng
     → _≡_ {A = Listed × List ℕ} (record { number = 0; count = n }, out) (listOf ks list)
 listed-is ks list e g h = rw (e, h, g)
 
-pub exact-done : (coherent noncoherent crcs others list : List ℕ) → length coherent ≡ 1152 → length noncoherent ≡ 1152 → length crcs ≡ 248 → length others ≡ 248
-    → length list ≡ 248 → exactInto coherent noncoherent crcs others list ≡ listOf (kept (exact coherent noncoherent crcs others) 248) list
+pub exact-done : (lead many : ℕ) (coherent noncoherent crcs others list : List ℕ) → length coherent ≡ 1152 → length noncoherent ≡ 1152 → length crcs ≡ many
+    → length others ≡ many → length list ≡ many
+    → exactInto lead many coherent noncoherent crcs others list ≡ listOf (kept (exact lead coherent noncoherent crcs others) many) list
 unfolding exactInto
-exact-done coherent noncoherent crcs others list a b c d e = simp (eq-eqb _ _ a, eq-eqb _ _ b, eq-eqb _ _ c, eq-eqb _ _ d, eq-eqb _ _ e)
+exact-done lead many coherent noncoherent crcs others list a b c d e = simp (eq-eqb _ _ a, eq-eqb _ _ b, eq-eqb _ _ c, eq-eqb _ _ d, eq-eqb _ _ e)

@@ -3,7 +3,7 @@
 use mathlib.Core.Path.{_≡_}
 use mathlib.Core.Bool.{Bool, _||_, cond}
 use mathlib.Core.List.{List}
-use Prim.Native.Nat.{ℕ, zero, suc, _+_, _-_, _*_, _<_}
+use Prim.Native.Nat.{ℕ, zero, suc, _+_, _-_, _*_, _<_, _≤_}
 use lib.Bits.{bitXor, bitOr}
 use lib.Dec.{ltb, eqb}
 use lib.ListN.{length, getD, replicate}
@@ -39,9 +39,19 @@ pub record Digits (bits : List ℕ) : Type 0 where
 
 -- ---- remainders
 
--- the remainder of n bytes, one bit on
+-- there is a row of messages of n bytes at so many starting samples, from sample 8 on, and all end within the window
+pub record Span (n many : ℕ) : Type 0 where
+  pub bytes : n ≤ 14
+  pub row : 8 ≤ many
+  pub ends : many + 64 * n ≤ 1152
+
+-- x^(8 n + 24) modulo the generator: with it a bit leaves a message of n bytes
+unfoldable pub leavingPower : ℕ → ℕ
+leavingPower n = divide 1 (replicate (8 * n + 24) 0)
+
+-- a remainder, one bit on, where a bit leaves with this power
 unfoldable pub next : ℕ → ℕ → ℕ → ℕ → ℕ
-next n crc leaving entering = bitXor (bitXor (bring crc 0) (divide entering (replicate 24 0))) (divide leaving (replicate (8 * n + 24) 0))
+next power crc leaving entering = bitXor (bitXor (bring crc 0) (divide entering (replicate 24 0))) (leaving * power)
 
 -- number j is x^(135 - j) modulo the generator
 pub record PowerTable (t : List ℕ) : Type 0 where
@@ -51,8 +61,8 @@ pub record PowerTable (t : List ℕ) : Type 0 where
 -- ---- lists
 
 -- marks, one for each starting sample: 1 where the place that starts there is let through
-pub record Marks (marks : List ℕ) : Type 0 where
-  pub size : length marks ≡ 248
+pub record Marks (many : ℕ) (marks : List ℕ) : Type 0 where
+  pub size : length marks ≡ many
   pub each : (i : ℕ) → getD marks i 0 < 2
 
 -- place k is marked
@@ -65,8 +75,8 @@ anyOf marks zero = 0
 anyOf marks (suc n) = bitOr (anyOf marks n) (getD marks n 0)
 
 -- the marks of the exact places
-unfoldable pub exactMark : List ℕ → List ℕ → List ℕ → List ℕ → ℕ → ℕ
-exactMark coherent noncoherent crcs others i = asBit (cleanAt coherent crcs i || cleanAt noncoherent others i)
+unfoldable pub exactMark : ℕ → List ℕ → List ℕ → List ℕ → List ℕ → ℕ → ℕ
+exactMark lead coherent noncoherent crcs others i = asBit (cleanAt lead coherent crcs i || cleanAt lead noncoherent others i)
 
-unfoldable pub exactMarks : List ℕ → List ℕ → List ℕ → List ℕ → List ℕ
-exactMarks coherent noncoherent crcs others = tabulate 248 (exactMark coherent noncoherent crcs others)
+unfoldable pub exactMarks : ℕ → ℕ → List ℕ → List ℕ → List ℕ → List ℕ → List ℕ
+exactMarks lead many coherent noncoherent crcs others = tabulate many (exactMark lead coherent noncoherent crcs others)

@@ -8,8 +8,13 @@ ghost use mathlib.Core.Path.{_≡_};
 ghost use lib.ListN.{length};
 ghost use Rattle.kernels.specs.Symbols.{sumsOf};
 ghost use Rattle.place.specs.declared.Slicer.the-variants.{Coherent, Noncoherent};
-ghost use Rattle.scan.specs.Flat.{bitsFrom, crcsIn, scanned};
-ghost use Rattle.scan.specs.Inner.{Digits};
+ghost use Rattle.scan.specs.Flat.{bitsFrom, crcsIn, roomFor, scanned, scannedBoth};
+ghost use Rattle.scan.specs.Inner.{Digits, Span, leavingPower};
+
+// x^136 and x^80 modulo the generator: with them a bit leaves a message of 14 bytes, and one of 7.
+const AWAY_14: u32 = 0x2d833c;
+
+const AWAY_7: u32 = 0x7eda22;
 
 // The sums, and the bits of both slicers, one for each sample.
 fn find_bits(samples: &[f32], sums: &mut [f32], coherent: &mut [u8], noncoherent: &mut [u8])
@@ -24,14 +29,77 @@ fn find_bits(samples: &[f32], sums: &mut [f32], coherent: &mut [u8], noncoherent
     compare(&norms, noncoherent);
 }
 
-// The remainders of the 248 messages of each slicer.
-fn find_crcs(coherent: &[u8], noncoherent: &[u8], crcs: &mut [u32], others: &mut [u32])
-    requires { ⌜ Digits (now coherent) × Digits (now noncoherent) × (length (now crcs) ≡ 248) × (length (now others) ≡ 248) ⌝ }
-    ensures { λ _. ⌜ (now (crcs .exit) ≡ crcsIn 14 (now (coherent .entry)) 248) × (now (others .exit) ≡ crcsIn 14 (now (noncoherent .entry)) 248) ⌝ }
+// The remainders of the messages of n bytes of each slicer.
+fn find_crcs(
+    n: usize,
+    many: usize,
+    power: u32,
+    coherent: &[u8],
+    noncoherent: &[u8],
+    crcs: &mut [u32],
+    others: &mut [u32],
+)
+    requires { ⌜ Span n many × (power ≡ leavingPower n) × Digits (now coherent) × Digits (now noncoherent) × (length (now crcs) ≡ many) × (length (now others) ≡ many) ⌝ }
+    ensures { λ _. ⌜ (now (crcs .exit) ≡ crcsIn n (now (coherent .entry)) many) × (now (others .exit) ≡ crcsIn n (now (noncoherent .entry)) many) ⌝ }
 {
-    first_row(coherent, crcs);
-    first_row(noncoherent, others);
-    roll_rows(coherent, noncoherent, crcs, others);
+    first_row(n, coherent, crcs);
+    first_row(n, noncoherent, others);
+    roll_rows(n, many, power, coherent, noncoherent, crcs, others);
+}
+
+// The memories of a scan have their lengths.
+fn has_room(
+    many: usize,
+    sums: &[f32],
+    coherent: &[u8],
+    noncoherent: &[u8],
+    crcs: &[u32],
+    others: &[u32],
+) -> bool
+    ensures { λ r. ⌜ r ≡ roomFor many (now (sums .entry)) (now (coherent .entry)) (now (noncoherent .entry)) (now (crcs .entry)) (now (others .entry)) ⌝ }
+{
+    if sums.len() != 2304 {
+        return false;
+    }
+    if coherent.len() != 1152 {
+        return false;
+    }
+    if noncoherent.len() != 1152 {
+        return false;
+    }
+    if crcs.len() != many {
+        return false;
+    }
+    if others.len() != many {
+        return false;
+    }
+    true
+}
+
+// The scan for messages of n bytes, at so many starting samples.
+fn scan_for(
+    n: usize,
+    many: usize,
+    power: u32,
+    samples: &[f32],
+    sums: &mut [f32],
+    coherent: &mut [u8],
+    noncoherent: &mut [u8],
+    crcs: &mut [u32],
+    others: &mut [u32],
+) -> u32
+    requires { ⌜ Span n many × (power ≡ leavingPower n) ⌝ }
+    ensures { λ r. ⌜ (r, now (sums .exit), now (coherent .exit), now (noncoherent .exit), now (crcs .exit), now (others .exit)) ≡ scanned n many (now (samples .entry)) (now (sums .entry)) (now (coherent .entry)) (now (noncoherent .entry)) (now (crcs .entry)) (now (others .entry)) ⌝ }
+{
+    if samples.len() != 2310 {
+        return 2;
+    }
+    if !has_room(many, sums, coherent, noncoherent, crcs, others) {
+        return 3;
+    }
+    find_bits(samples, sums, coherent, noncoherent);
+    find_crcs(n, many, power, coherent, noncoherent, crcs, others);
+    0
 }
 
 // The sums of four samples and the bits of both slicers by starting sample, and the remainders of the messages of 14 bytes that start
@@ -44,27 +112,80 @@ pub fn scan(
     crcs: &mut [u32],
     others: &mut [u32],
 ) -> u32
-    ensures { λ r. ⌜ (r, now (sums .exit), now (coherent .exit), now (noncoherent .exit), now (crcs .exit), now (others .exit)) ≡ scanned (now (samples .entry)) (now (sums .entry)) (now (coherent .entry)) (now (noncoherent .entry)) (now (crcs .entry)) (now (others .entry)) ⌝ }
+    ensures { λ r. ⌜ (r, now (sums .exit), now (coherent .exit), now (noncoherent .exit), now (crcs .exit), now (others .exit)) ≡ scanned 14 248 (now (samples .entry)) (now (sums .entry)) (now (coherent .entry)) (now (noncoherent .entry)) (now (crcs .entry)) (now (others .entry)) ⌝ }
+{
+    scan_for(
+        14,
+        248,
+        AWAY_14,
+        samples,
+        sums,
+        coherent,
+        noncoherent,
+        crcs,
+        others,
+    )
+}
+
+// The same for the messages of 7 bytes, which start with samples 8 to 703: 696 remainders for each slicer.
+pub fn scan_short(
+    samples: &[f32],
+    sums: &mut [f32],
+    coherent: &mut [u8],
+    noncoherent: &mut [u8],
+    crcs: &mut [u32],
+    others: &mut [u32],
+) -> u32
+    ensures { λ r. ⌜ (r, now (sums .exit), now (coherent .exit), now (noncoherent .exit), now (crcs .exit), now (others .exit)) ≡ scanned 7 696 (now (samples .entry)) (now (sums .entry)) (now (coherent .entry)) (now (noncoherent .entry)) (now (crcs .entry)) (now (others .entry)) ⌝ }
+{
+    scan_for(
+        7,
+        696,
+        AWAY_7,
+        samples,
+        sums,
+        coherent,
+        noncoherent,
+        crcs,
+        others,
+    )
+}
+
+// Both at once: the sums and the bits are made once. Refused as by each of the two.
+pub fn scan_both(
+    samples: &[f32],
+    sums: &mut [f32],
+    coherent: &mut [u8],
+    noncoherent: &mut [u8],
+    crcs: &mut [u32],
+    others: &mut [u32],
+    short_crcs: &mut [u32],
+    short_others: &mut [u32],
+) -> u32
+    ensures { λ r. ⌜ (r, now (sums .exit), now (coherent .exit), now (noncoherent .exit), now (crcs .exit), now (others .exit), now («short_crcs» .exit), now («short_others» .exit)) ≡ scannedBoth (now (samples .entry)) (now (sums .entry)) (now (coherent .entry)) (now (noncoherent .entry)) (now (crcs .entry)) (now (others .entry)) (now («short_crcs» .entry)) (now («short_others» .entry)) ⌝ }
 {
     if samples.len() != 2310 {
         return 2;
     }
-    if sums.len() != 2304 {
+    if !has_room(248, sums, coherent, noncoherent, crcs, others) {
         return 3;
     }
-    if coherent.len() != 1152 {
+    if short_crcs.len() != 696 {
         return 3;
     }
-    if noncoherent.len() != 1152 {
-        return 3;
-    }
-    if crcs.len() != 248 {
-        return 3;
-    }
-    if others.len() != 248 {
+    if short_others.len() != 696 {
         return 3;
     }
     find_bits(samples, sums, coherent, noncoherent);
-    find_crcs(coherent, noncoherent, crcs, others);
+    find_crcs(14, 248, AWAY_14, coherent, noncoherent, crcs, others);
+    find_crcs(
+        7,
+        696,
+        AWAY_7,
+        coherent,
+        noncoherent,
+        short_crcs,
+        short_others,
+    );
     0
 }

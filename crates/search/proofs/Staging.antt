@@ -24,7 +24,7 @@ use Rattle.search.specs.declared.Candidate.{Candidate}
 use Rattle.search.specs.declared.Reading.{Reading}
 use Rattle.search.specs.declared.Tried.{Tried}
 use Rattle.search.specs.declared.Tried.the-variants.{Pass, Fail}
-use Rattle.search.specs.Kinds.{Kind}
+use Rattle.search.specs.Kinds.{Kind, placesOf}
 use Rattle.search.specs.Window.{Window}
 use Rattle.search.specs.Trials.{checked, cleared, given, sixTrials, trials, differ, first, reading}
 use Rattle.search.specs.Choice.{candidate, dropped, survivor, candidateAt, scan, best}
@@ -46,7 +46,7 @@ module _ (kind : Kind) (s : Settings) (w : Window) where
   same-whole : (m : ℕ) → whole kind (atLevel m s) w ≡ whole kind s w
   unfolding whole
   same-whole m =
-      ap (λ (f : Place → Option Candidate). scan f none (kind .places))
+      ap (λ (f : Place → Option Candidate). scan f none (placesOf kind))
       (fun-ext (λ p. same-survivor m p (reading kind 2 (w .bits Coherent p) (w .bits Noncoherent p))))
 
   pub exact-first : (m : ℕ) {a : Candidate} → m ≤ s .level → best kind (atLevel m s) w ≡ some a → best kind s w ≡ some a

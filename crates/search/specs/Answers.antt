@@ -1,4 +1,4 @@
--- What a decode answers, and what is refused.
+-- What a decode answers, and what is refused: for either kind of message.
 -- Assumes nothing.
 use mathlib.Core.Bool.{_&&_, cond}
 use mathlib.Core.List.{List}
@@ -20,8 +20,8 @@ use Rattle.search.specs.declared.Survivor.{Survivor}
 use Rattle.search.specs.declared.Arrival.{Arrival}
 use Rattle.search.specs.declared.Answer.{Answer}
 use Rattle.search.specs.Choice.{candidateAt, best}
-use Rattle.search.specs.Kinds.{long}
-use Rattle.search.specs.Seen.{windowOf}
+use Rattle.search.specs.Kinds.{Kind}
+use Rattle.search.specs.Seen.{seen}
 use Rattle.search.specs.When.{timingAt, indexOf}
 
 -- ---- refusals: the lowest number that applies
@@ -42,33 +42,33 @@ settingsNumber s = cond (leb (s .level) 2) (cond (finite (s .threshold) && finit
 unfoldable pub indexNumber : ℕ → ℕ
 indexNumber index = cond (leb 128 index && leb index (2 ^ 63)) 0 6
 
--- a place is one of the 248, else 7
-unfoldable pub placeNumber : Place → ℕ
-placeNumber p = cond (listed 31 p) 0 7
+-- a place is one of those that are searched, else 7
+unfoldable pub placeNumber : Kind → Place → ℕ
+placeNumber kind p = cond (listed (kind .last) p) 0 7
 
 -- ---- zeros
 
 abbrev pub nowhere : Place
 nowhere = record { bit = 0; phase = 0; symbol = 0 }
 
-abbrev pub noCandidate : Candidate
-noCandidate =
+abbrev pub noCandidate : Kind → Candidate
+noCandidate kind =
     record {
       place = nowhere;
       trial = 0;
       slicer = Coherent;
       repairs = None;
-      message = replicate 14 0;
+      message = replicate (kind .bytes) 0;
       prompt = zeroF;
       cn0 = zeroF;
     }
 
-abbrev pub refusedAnswer : ℕ → Answer
-refusedAnswer n =
+abbrev pub refusedAnswer : Kind → ℕ → Answer
+refusedAnswer kind n =
     record {
       number = n;
       place = nowhere;
-      message = replicate 14 0;
+      message = replicate (kind .bytes) 0;
       repairs = None;
       slicer = Coherent;
       cn0 = zeroF;
@@ -79,37 +79,37 @@ refusedAnswer n =
 -- ---- answers
 
 -- what is found, with its number: 1 where it is nothing
-abbrev pub survivorOf : Option Candidate → Survivor
-survivorOf none = record { number = 1; candidate = noCandidate }
-survivorOf (some c) = record { number = 0; candidate = c }
+abbrev pub survivorOf : Kind → Option Candidate → Survivor
+survivorOf kind none = record { number = 1; candidate = noCandidate kind }
+survivorOf kind (some c) = record { number = 0; candidate = c }
 
 -- the same with a refusal before it
-unfoldable pub survivorOr : ℕ → Option Candidate → Survivor
-survivorOr n o = cond (eqb n 0) (survivorOf o) (record { number = n; candidate = noCandidate })
+unfoldable pub survivorOr : Kind → ℕ → Option Candidate → Survivor
+survivorOr kind n o = cond (eqb n 0) (survivorOf kind o) (record { number = n; candidate = noCandidate kind })
 
 -- the surviving reading of a place
-unfoldable pub readAt : List Float → Settings → Place → Survivor
-readAt samples s p =
-    survivorOr (orNumber (windowNumber samples) (orNumber (settingsNumber s) (placeNumber p)))
-    (candidateAt long s (windowOf 14 samples) p)
+unfoldable pub readAt : Kind → List Float → Settings → Place → Survivor
+readAt kind samples s p =
+    survivorOr kind (orNumber (windowNumber samples) (orNumber (settingsNumber s) (placeNumber kind p)))
+    (candidateAt kind s (seen kind samples) p)
 
 -- the best of all places
-unfoldable pub bestOf : List Float → Settings → Survivor
-bestOf samples s = survivorOr (orNumber (windowNumber samples) (settingsNumber s)) (best long s (windowOf 14 samples))
+unfoldable pub bestOf : Kind → List Float → Settings → Survivor
+bestOf kind samples s = survivorOr kind (orNumber (windowNumber samples) (settingsNumber s)) (best kind s (seen kind samples))
 
 -- when a message at a place came
-unfoldable pub arrivalAt : List Float → Place → List ℕ → ℕ → Arrival
-arrivalAt samples p message index =
-    let n = orNumber (windowNumber samples) (orNumber (indexNumber index) (placeNumber p)) in
-    let t = timingAt (windowOf 14 samples) message (sampleStart p) in
+unfoldable pub arrivalAt : Kind → List Float → Place → List ℕ → ℕ → Arrival
+arrivalAt kind samples p message index =
+    let n = orNumber (windowNumber samples) (orNumber (indexNumber index) (placeNumber kind p)) in
+    let t = timingAt (seen kind samples) message (sampleStart p) in
     cond (eqb n 0)
     (record { number = 0; index = indexOf index (sampleStart p) (t .moves); fraction = t .fraction })
     (record { number = n; index = 0; fraction = zeroF })
 
 -- a candidate with its time
-unfoldable pub answerOf : List Float → ℕ → Candidate → Answer
-answerOf samples index c =
-    let t = timingAt (windowOf 14 samples) (c .message) (sampleStart (c .place)) in
+unfoldable pub answerOf : Kind → List Float → ℕ → Candidate → Answer
+answerOf kind samples index c =
+    let t = timingAt (seen kind samples) (c .message) (sampleStart (c .place)) in
     record {
       number = 0;
       place = c .place;
@@ -121,12 +121,12 @@ answerOf samples index c =
       fraction = t .fraction;
     }
 
-abbrev pub answered : List Float → ℕ → Option Candidate → Answer
-answered samples index none = refusedAnswer 1
-answered samples index (some c) = answerOf samples index c
+abbrev pub answered : Kind → List Float → ℕ → Option Candidate → Answer
+answered kind samples index none = refusedAnswer kind 1
+answered kind samples index (some c) = answerOf kind samples index c
 
 -- THE DECODE
-unfoldable pub decodeOf : List Float → Settings → ℕ → Answer
-decodeOf samples s index =
+unfoldable pub decodeOf : Kind → List Float → Settings → ℕ → Answer
+decodeOf kind samples s index =
     let n = orNumber (windowNumber samples) (orNumber (settingsNumber s) (indexNumber index)) in
-    cond (eqb n 0) (answered samples index (best long s (windowOf 14 samples))) (refusedAnswer n)
+    cond (eqb n 0) (answered kind samples index (best kind s (seen kind samples))) (refusedAnswer kind n)

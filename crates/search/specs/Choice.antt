@@ -15,7 +15,7 @@ use Rattle.search.specs.declared.Reading.{Reading}
 use Rattle.search.specs.declared.Tried.{Tried}
 use Rattle.search.specs.declared.Tried.the-variants.{Pass, Fail}
 use Rattle.search.specs.declared.Candidate.{Candidate}
-use Rattle.search.specs.Kinds.{Kind}
+use Rattle.search.specs.Kinds.{Kind, placesOf}
 use Rattle.search.specs.Window.{Window}
 use Rattle.search.specs.Trials.{reading}
 
@@ -68,4 +68,4 @@ scan f h places = foldl (λ held p. better held (f p)) h places
 
 -- THE SEARCH
 unfoldable pub best : Kind → Settings → Window → Option Candidate
-best kind s w = scan (candidateAt kind s w) none (kind .places)
+best kind s w = scan (candidateAt kind s w) none (placesOf kind)

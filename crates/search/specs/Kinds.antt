@@ -12,12 +12,16 @@ use Rattle.place.specs.All.{allPlaces}
 pub record Kind : Type 0 where
   -- the bytes of a message: 14, 7
   pub bytes : ℕ
-  -- the places, in the order of the scan: 248, 696
-  pub places : List Place
+  -- the last bit offset that is searched: 31, 87
+  pub last : ℕ
   -- the most repairs: 2, 1
   pub most : ℕ
   -- the first bytes that are taken
   pub header : ℕ → Bool
+
+-- the places, in the order of the scan: 248, 696
+abbrev pub placesOf : Kind → List Place
+placesOf kind = allPlaces (kind .last)
 
 -- the header of a message is one of those that are taken
 abbrev pub good : Kind → List ℕ → Bool
@@ -25,8 +29,8 @@ good kind message = kind .header (getD message 0 0)
 
 -- extended squitters: 14 bytes, bit offsets 1 to 31, at most two repairs
 unfoldable pub long : Kind
-long = record { bytes = 14; places = allPlaces 31; most = 2; header = longHeader }
+long = record { bytes = 14; last = 31; most = 2; header = longHeader }
 
 -- acquisition squitters: 7 bytes, bit offsets 1 to 87, at most one repair
 unfoldable pub short : Kind
-short = record { bytes = 7; places = allPlaces 87; most = 1; header = shortHeader }
+short = record { bytes = 7; last = 87; most = 1; header = shortHeader }

@@ -5,3 +5,4 @@ pub mod Choice
 pub mod Seen
 pub mod When
 pub mod Answers
+pub mod Short

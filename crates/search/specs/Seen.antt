@@ -14,6 +14,7 @@ use Rattle.kernels.specs.Powers.{powerOf, noiseOf}
 use Rattle.streams.specs.Streams.{messageAt}
 use Rattle.streams.specs.Distances.{differing}
 use Rattle.cn0.specs.Estimate.{cn0Of}
+use Rattle.search.specs.Kinds.{Kind}
 use Rattle.search.specs.Window.{Window}
 
 -- the symbols of a clock phase: a row of 288
@@ -44,3 +45,7 @@ windowOf n samples =
       prompt = promptAt n samples;
       cn0 = λ p message. cn0Of (promptAt n samples p message) (noiseAt n samples p message);
     }
+
+-- the same, for a kind of message
+abbrev pub seen : Kind → List Float → Window
+seen kind samples = windowOf (kind .bytes) samples

@@ -67,3 +67,36 @@ pub struct Answer {
     pub index: u64,
     pub fraction: f32,
 }
+
+// The same for short messages: 7 bytes.
+pub struct ShortCandidate {
+    pub place: Place,
+    pub trial: u8,
+    pub slicer: Slicer,
+    pub repairs: Repairs,
+    pub message: [u8; 7],
+    pub prompt: f32,
+    pub cn0: f32,
+}
+
+pub struct ShortSurvivor {
+    pub number: u32,
+    pub candidate: ShortCandidate,
+}
+
+pub struct ShortAnswer {
+    pub number: u32,
+    pub place: Place,
+    pub message: [u8; 7],
+    pub repairs: Repairs,
+    pub slicer: Slicer,
+    pub cn0: f32,
+    pub index: u64,
+    pub fraction: f32,
+}
+
+// Both searches of one window.
+pub struct BothAnswers {
+    pub long: Answer,
+    pub short: ShortAnswer,
+}

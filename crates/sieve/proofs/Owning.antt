@@ -2,7 +2,7 @@
 --     owner-law               its rule, by one computed test over both tables
 --     slot-lt, index-lt       a remainder's slot is there, and its displacement
 --     lets-hit, lets-miss, asks-let, asks-not   in the code's own words
---     lets-gone, asks-same    what is not let through no such number of positions clears, and 2^24 is asked in its place
+--     lets-gone, asks-same    what is not let through no such number of positions of 14 bytes or fewer clears, and 2^24 is asked in its place
 --     let-bit, let-places     the two remainders of a place
 -- Assumes nothing.
 use mathlib.Core.Path.{_≡_, refl, sym, ap, _∙_, subst}
@@ -34,7 +34,7 @@ use Rattle.scan.proofs.Keeping.{or-bits, lane-is}
 use Rattle.sieve.specs.Repairable.{repairableAt}
 use Rattle.sieve.specs.Inner.{slotOf, lets, letIn, Shaped, Owners, asks}
 use Rattle.sieve.proofs.Placed.{placed, read, stands, read-is}
-use Rattle.sieve.proofs.Clears.{rep-none}
+use Rattle.sieve.proofs.Clears.{rep-none, fewer-gone}
 
 -- ---- the test: n bits name the owner, k choose the displacement, b are a slot's; ss are the remainders of the single positions
 
@@ -250,34 +250,38 @@ module _ (s : Shape) (d o : List ℕ) where
       ∙ ap (λ (x : ℕ). asBit (lets s d o (getD crcs x 0) || lets s d o (getD others x 0))) (lane-is m k h))
 
   module _ (level : ℕ) (w : Owners level s d o) where
-    pub lets-gone : (r : ℕ) → lets s d o r ≡ false → (n : ℕ) → 1 ≤ n → n ≤ level → clearing 14 n r ≡ Nothing
+    lets-none : (r : ℕ) → lets s d o r ≡ false → (m : ℕ) → 1 ≤ m → m ≤ level → clearing 14 m r ≡ Nothing
     unfolding lets
-    lets-gone r f n a b =
-        not-found 14 n r
+    lets-none r f m a b =
+        not-found 14 m r
         (λ ρ c. eqb-false (getD o (slotOf s d r) 0) (bitAnd r (s .low)) f
         (subst (λ (x : ℕ). getD o (slotOf s d x) 0 ≡ bitAnd x (s .low)) (c .fits)
         (w .there ρ (c .proper) (omega (arith, c .many)) (omega (arith, c .many)))))
 
-    gone : (r : ℕ) → lets s d o r ≡ false → (r ≡ 0 → ⊥) → (n : ℕ) → n ≤ level → clearing 14 n r ≡ Nothing
-    gone r f z zero h = none-not-zero 14 r z
-    gone r f z (suc n) h = lets-gone r f (suc n) (omega arith) h
+    module _ (n : ℕ) (few : n ≤ 14) where
+      pub lets-gone : (r : ℕ) → lets s d o r ≡ false → (m : ℕ) → 1 ≤ m → m ≤ level → clearing n m r ≡ Nothing
+      lets-gone r f m a b = fewer-gone n few m r (lets-none r f m a b)
 
-    pub asks-same : (r : ℕ) → codeUpTo level (asks s d o r) ≡ codeUpTo level r
-    unfolding asks codeUpTo
-    asks-same r = go (lets s d o r) refl (eqb r 0) refl
-      where
-        go : (t : Bool) → lets s d o r ≡ t → (q : Bool) → eqb r 0 ≡ q → codeUpTo level (cond t r (cond q 0 (2 ^ 24))) ≡ codeUpTo level r
-        go true e q g = refl
-        go false e true g = ap (codeUpTo level) (sym (eqb-true r 0 g))
-        go false e false g =
-            ap codeOf
-            (up-to-none 14 (2 ^ 24) level (λ n h. gone-high 14 (2 ^ 24) (le-refl (2 ^ 24)) n)
-            ∙ sym (up-to-none 14 r level (gone r e (eqb-false r 0 g))))
+      gone : (r : ℕ) → lets s d o r ≡ false → (r ≡ 0 → ⊥) → (m : ℕ) → m ≤ level → clearing n m r ≡ Nothing
+      gone r f z zero h = none-not-zero n r z
+      gone r f z (suc m) h = lets-gone r f (suc m) (omega arith) h
 
-    pub let-places : (crcs others : List ℕ) (k : ℕ) → letIn s d o crcs others k ≡ false → repairableAt level crcs others k ≡ false
-    unfolding letIn repairableAt
-    let-places crcs others k e =
-        let x = getD crcs (laneOf k) 0 in
-        let y = getD others (laneOf k) 0 in
-        let (p, q) = or-none (lets s d o x) (lets s d o y) e in
-        rw (rep-none level x (lets-gone x p), rep-none level y (lets-gone y q))
+      pub asks-same : (r : ℕ) → codeUpTo n level (asks s d o r) ≡ codeUpTo n level r
+      unfolding asks codeUpTo
+      asks-same r = go (lets s d o r) refl (eqb r 0) refl
+        where
+          go : (t : Bool) → lets s d o r ≡ t → (q : Bool) → eqb r 0 ≡ q → codeUpTo n level (cond t r (cond q 0 (2 ^ 24))) ≡ codeUpTo n level r
+          go true e q g = refl
+          go false e true g = ap (codeUpTo n level) (sym (eqb-true r 0 g))
+          go false e false g =
+              ap codeOf
+              (up-to-none n (2 ^ 24) level (λ m h. gone-high n (2 ^ 24) (le-refl (2 ^ 24)) m)
+              ∙ sym (up-to-none n r level (gone r e (eqb-false r 0 g))))
+
+      pub let-places : (crcs others : List ℕ) (k : ℕ) → letIn s d o crcs others k ≡ false → repairableAt n level crcs others k ≡ false
+      unfolding letIn repairableAt
+      let-places crcs others k e =
+          let x = getD crcs (laneOf k) 0 in
+          let y = getD others (laneOf k) 0 in
+          let (p, q) = or-none (lets s d o x) (lets s d o y) e in
+          rw (rep-none n level x (lets-gone x p), rep-none n level y (lets-gone y q))

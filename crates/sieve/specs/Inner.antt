@@ -3,7 +3,7 @@
 -- the slot names the low bits of the remainder that owns it. Each pattern of at least one and at most so many positions owns its slot.
 -- Assumes nothing.
 use mathlib.Core.Path.{_≡_}
-use mathlib.Core.Bool.{Bool, false, cond, _||_}
+use mathlib.Core.Bool.{Bool, true, false, cond, _||_}
 use mathlib.Core.List.{List, [], _∷_, _++_}
 use Prim.Native.Nat.{ℕ, zero, suc, _+_, _*_, _/_, _^_, _<_, _≤_}
 use lib.Bits.{bitXor, bitAnd}
@@ -15,6 +15,15 @@ use Rattle.sieve.specs.declared.list.Shape.{Shape}
 use Rattle.repairs.specs.Codes.{codeUpTo}
 use Rattle.scan.specs.Sieve.{kept, laneOf, onto}
 use Rattle.sieve.specs.Repairable.{repairableAt}
+
+-- the bytes of a short message and of a long one, and the most repairs
+unfoldable pub bytesOf : Bool → ℕ
+bytesOf true = 7
+bytesOf false = 14
+
+unfoldable pub mostOf : Bool → ℕ
+mostOf true = 1
+mostOf false = 2
 
 -- the slot of a remainder
 abbrev pub slotOf : Shape → List ℕ → ℕ → ℕ
@@ -47,26 +56,29 @@ pub record Owners (level : ℕ) (s : Shape) (ds os : List ℕ) : Type 0 where
 unfoldable pub asks : Shape → List ℕ → List ℕ → ℕ → ℕ
 asks s ds os r = cond (lets s ds os r) r (cond (eqb r 0) 0 (2 ^ 24))
 
--- the first n places are below 248
-pub record Within (through : List ℕ) (n : ℕ) : Type 0 where
-  pub each : (m : ℕ) → m < n → getD through m 0 < 248
+-- the first n places are below so many
+pub record Within (many : ℕ) (through : List ℕ) (n : ℕ) : Type 0 where
+  pub each : (m : ℕ) → m < n → getD through m 0 < many
 
 -- what is asked for the first n places, two for each
-pub record Gathered (s : Shape) (ds os crcs others through asked : List ℕ) (n : ℕ) : Type 0 where
-  pub size : length asked ≡ 496
+pub record Gathered (many : ℕ) (s : Shape) (ds os crcs others through asked : List ℕ) (n : ℕ) : Type 0 where
+  pub size : length asked ≡ 2 * many
   pub first : (m : ℕ) → m < n → getD asked (2 * m) 0 ≡ asks s ds os (getD crcs (laneOf (getD through m 0)) 0)
   pub second : (m : ℕ) → m < n → getD asked (2 * m + 1) 0 ≡ asks s ds os (getD others (laneOf (getD through m 0)) 0)
 
--- what a hash of some level gives: every place that it lets through, and in place of the two remainders of each two with the same codes
-pub record Sifted (level : ℕ) (crcs others through asked : List ℕ) (n : ℕ) : Type 0 where
-  pub few : n ≤ 248
-  pub size : length through ≡ 256
-  pub sizes : length asked ≡ 496
+-- what a hash of some level gives: every place that it lets through, and in place of the two remainders of each two with the same codes,
+-- for messages of at most 14 bytes
+pub record Sifted (level many : ℕ) (crcs others through asked : List ℕ) (n : ℕ) : Type 0 where
+  pub few : n ≤ many
+  pub size : length through ≡ many
+  pub sizes : length asked ≡ 2 * many
   pub test : ℕ → Bool
-  pub places : take n through ≡ kept test 248
-  pub none : (k : ℕ) → test k ≡ false → repairableAt level crcs others k ≡ false
-  pub first : (m : ℕ) → m < n → codeUpTo level (getD asked (2 * m) 0) ≡ codeUpTo level (getD crcs (laneOf (getD through m 0)) 0)
-  pub second : (m : ℕ) → m < n → codeUpTo level (getD asked (2 * m + 1) 0) ≡ codeUpTo level (getD others (laneOf (getD through m 0)) 0)
+  pub places : take n through ≡ kept test many
+  pub none : (bytes k : ℕ) → bytes ≤ 14 → test k ≡ false → repairableAt bytes level crcs others k ≡ false
+  pub first : (bytes m : ℕ) → bytes ≤ 14 → m < n
+      → codeUpTo bytes level (getD asked (2 * m) 0) ≡ codeUpTo bytes level (getD crcs (laneOf (getD through m 0)) 0)
+  pub second : (bytes m : ℕ) → bytes ≤ 14 → m < n
+      → codeUpTo bytes level (getD asked (2 * m + 1) 0) ≡ codeUpTo bytes level (getD others (laneOf (getD through m 0)) 0)
 
 -- of the first n places those with a code of at least one position, and their codes
 unfoldable pub taken : List ℕ → ℕ → Bool

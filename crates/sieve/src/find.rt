@@ -11,11 +11,11 @@ use crate::tables::TWO_DISPLACEMENTS;
 use crate::tables::TWO_OWNERS;
 use scan::list::Listed;
 ghost use mathlib.Core.Path.{_≡_};
-ghost use Prim.Native.Nat.{_≤_};
+ghost use Prim.Native.Nat.{_*_, _≤_};
 ghost use lib.ListN.{length, take};
 ghost use Rattle.scan.specs.Sieve.{kept};
 ghost use Rattle.sieve.specs.Repairable.{repairableIn};
-ghost use Rattle.sieve.specs.Inner.{Shaped, letIn, Gathered, Sifted};
+ghost use Rattle.sieve.specs.Inner.{bytesOf, mostOf, Shaped, letIn, Gathered, Sifted};
 
 const AT_ONE: Shape = Shape {
     index: 0x7f,
@@ -33,19 +33,21 @@ const AT_TWO: Shape = Shape {
 
 // The places that a lent hash lets through, and what is to be asked for them.
 fn sift_in(
+    m: usize,
     shape: Shape,
     displacements: &[u8],
     owners: &[u16],
     crcs: &[u32],
     others: &[u32],
-    through: &mut [u8],
+    through: &mut [u16],
     asked: &mut [u32],
 ) -> usize
-    requires { ⌜ Shaped shape (now displacements) (now owners) × (length (now crcs) ≡ 248) × (length (now others) ≡ 248) × (length (now through) ≡ 256) × (length (now asked) ≡ 496) ⌝ }
-    ensures { λ r. ⌜ (r ≤ 248) × (length (now (through .exit)) ≡ 256) × (take r (now (through .exit)) ≡ kept (letIn shape (now (displacements .entry)) (now (owners .entry)) (now (crcs .entry)) (now (others .entry))) 248) × Gathered shape (now (displacements .entry)) (now (owners .entry)) (now (crcs .entry)) (now (others .entry)) (now (through .exit)) (now (asked .exit)) r ⌝ }
+    requires { ⌜ (m ≤ 87) × Shaped shape (now displacements) (now owners) × (length (now crcs) ≡ 8 * m) × (length (now others) ≡ 8 * m) × (length (now through) ≡ 8 * m) × (length (now asked) ≡ 2 * (8 * m)) ⌝ }
+    ensures { λ r. ⌜ (r ≤ 8 * m) × (length (now (through .exit)) ≡ 8 * m) × (take r (now (through .exit)) ≡ kept (letIn shape (now (displacements .entry)) (now (owners .entry)) (now (crcs .entry)) (now (others .entry))) (8 * m)) × Gathered (8 * m) shape (now (displacements .entry)) (now (owners .entry)) (now (crcs .entry)) (now (others .entry)) (now (through .exit)) (now (asked .exit)) r ⌝ }
 {
-    let count = list_in(shape, displacements, owners, crcs, others, through);
+    let count = list_in(m, shape, displacements, owners, crcs, others, through);
     gather(
+        m,
         shape,
         displacements,
         owners,
@@ -58,11 +60,12 @@ fn sift_in(
     count
 }
 
-fn sift_one(crcs: &[u32], others: &[u32], through: &mut [u8], asked: &mut [u32]) -> usize
-    requires { ⌜ (length (now crcs) ≡ 248) × (length (now others) ≡ 248) × (length (now through) ≡ 256) × (length (now asked) ≡ 496) ⌝ }
-    ensures { λ r. ⌜ Sifted 1 (now (crcs .entry)) (now (others .entry)) (now (through .exit)) (now (asked .exit)) r ⌝ }
+fn sift_one(m: usize, crcs: &[u32], others: &[u32], through: &mut [u16], asked: &mut [u32]) -> usize
+    requires { ⌜ (m ≤ 87) × (length (now crcs) ≡ 8 * m) × (length (now others) ≡ 8 * m) × (length (now through) ≡ 8 * m) × (length (now asked) ≡ 2 * (8 * m)) ⌝ }
+    ensures { λ r. ⌜ Sifted 1 (8 * m) (now (crcs .entry)) (now (others .entry)) (now (through .exit)) (now (asked .exit)) r ⌝ }
 {
     sift_in(
+        m,
         AT_ONE,
         &ONE_DISPLACEMENTS,
         &ONE_OWNERS,
@@ -73,11 +76,12 @@ fn sift_one(crcs: &[u32], others: &[u32], through: &mut [u8], asked: &mut [u32])
     )
 }
 
-fn sift_two(crcs: &[u32], others: &[u32], through: &mut [u8], asked: &mut [u32]) -> usize
-    requires { ⌜ (length (now crcs) ≡ 248) × (length (now others) ≡ 248) × (length (now through) ≡ 256) × (length (now asked) ≡ 496) ⌝ }
-    ensures { λ r. ⌜ Sifted 2 (now (crcs .entry)) (now (others .entry)) (now (through .exit)) (now (asked .exit)) r ⌝ }
+fn sift_two(m: usize, crcs: &[u32], others: &[u32], through: &mut [u16], asked: &mut [u32]) -> usize
+    requires { ⌜ (m ≤ 87) × (length (now crcs) ≡ 8 * m) × (length (now others) ≡ 8 * m) × (length (now through) ≡ 8 * m) × (length (now asked) ≡ 2 * (8 * m)) ⌝ }
+    ensures { λ r. ⌜ Sifted 2 (8 * m) (now (crcs .entry)) (now (others .entry)) (now (through .exit)) (now (asked .exit)) r ⌝ }
 {
     sift_in(
+        m,
         AT_TWO,
         &TWO_DISPLACEMENTS,
         &TWO_OWNERS,
@@ -89,34 +93,49 @@ fn sift_two(crcs: &[u32], others: &[u32], through: &mut [u8], asked: &mut [u32])
 }
 
 // By the hash of the level.
-fn sift(level: u32, crcs: &[u32], others: &[u32], through: &mut [u8], asked: &mut [u32]) -> usize
-    requires { ⌜ (1 ≤ level) × (level ≤ 2) × (length (now crcs) ≡ 248) × (length (now others) ≡ 248) × (length (now through) ≡ 256) × (length (now asked) ≡ 496) ⌝ }
-    ensures { λ r. ⌜ Sifted level (now (crcs .entry)) (now (others .entry)) (now (through .exit)) (now (asked .exit)) r ⌝ }
+fn sift(
+    level: u32,
+    m: usize,
+    crcs: &[u32],
+    others: &[u32],
+    through: &mut [u16],
+    asked: &mut [u32],
+) -> usize
+    requires { ⌜ (1 ≤ level) × (level ≤ 2) × (m ≤ 87) × (length (now crcs) ≡ 8 * m) × (length (now others) ≡ 8 * m) × (length (now through) ≡ 8 * m) × (length (now asked) ≡ 2 * (8 * m)) ⌝ }
+    ensures { λ r. ⌜ Sifted level (8 * m) (now (crcs .entry)) (now (others .entry)) (now (through .exit)) (now (asked .exit)) r ⌝ }
 {
     if level == 1 {
-        return sift_one(crcs, others, through, asked);
+        return sift_one(m, crcs, others, through, asked);
     }
-    sift_two(crcs, others, through, asked)
+    sift_two(m, crcs, others, through, asked)
 }
 
-// The sorted tables are asked once for all that were let through.
-pub fn find(level: u32, crcs: &[u32], others: &[u32], list: &mut [u8], codes: &mut [u32]) -> Listed
-    requires { ⌜ (1 ≤ level) × (level ≤ 2) × (length (now crcs) ≡ 248) × (length (now others) ≡ 248) × (length (now list) ≡ 248) × (length (now codes) ≡ 496) ⌝ }
-    ensures { λ r. ⌜ (r, now (list .exit), now (codes .exit)) ≡ repairableIn level (now (crcs .entry)) (now (others .entry)) (now (list .entry)) (now (codes .entry)) ⌝ }
+// The sorted tables are asked once for all that were let through. What they tell has room for the places of either kind.
+pub fn find(
+    short: bool,
+    level: u32,
+    m: usize,
+    crcs: &[u32],
+    others: &[u32],
+    through: &mut [u16],
+    asked: &mut [u32],
+    list: &mut [u16],
+    codes: &mut [u32],
+) -> Listed
+    requires { ⌜ (1 ≤ level) × (level ≤ mostOf short) × (m ≤ 87) × (length (now crcs) ≡ 8 * m) × (length (now others) ≡ 8 * m) × (length (now through) ≡ 8 * m) × (length (now asked) ≡ 2 * (8 * m)) × (length (now list) ≡ 8 * m) × (length (now codes) ≡ 2 * (8 * m)) ⌝ }
+    ensures { λ r. ⌜ (r, now (list .exit), now (codes .exit)) ≡ repairableIn (bytesOf short) level (8 * m) (now (crcs .entry)) (now (others .entry)) (now (list .entry)) (now (codes .entry)) ⌝ }
 {
-    let mut through = [0u8; 256];
-    let mut asked = [0u32; 496];
-    let count = sift(level, crcs, others, &mut through, &mut asked);
+    let count = sift(level, m, crcs, others, through, asked);
     if count == 0 {
         return Listed {
             number: 0,
             count: 0,
         };
     }
-    let mut told = [0u32; 496];
-    tell(level, &asked, 2 * count, &mut told);
+    let mut told = [0u32; 1392];
+    tell(short, level, asked, 2 * count, &mut told);
     Listed {
         number: 0,
-        count: keep(&through, &told, count, list, codes),
+        count: keep(through, &told, count, list, codes),
     }
 }

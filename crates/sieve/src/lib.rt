@@ -8,38 +8,53 @@ mod tables;
 use crate::find::find;
 use scan::list::Listed;
 ghost use mathlib.Core.Path.{_≡_};
+ghost use Prim.Native.Nat.{_*_, _≤_, min};
+ghost use lib.ListN.{length};
 ghost use Rattle.sieve.specs.Repairable.{repairableInto};
+ghost use Rattle.sieve.specs.Inner.{bytesOf, mostOf};
 
-// Of the 248 places, by the remainders of both slicers: their numbers in the order of the search, and the codes of both remainders of
-// each. Refused: 2 not 248 remainders, 3 not room for 248 places and 496 codes, 4 a level above 2.
-pub fn find_repairable(
+// As many repairs as the level says, but no more than the kind allows.
+fn at_most(short: bool, level: u32) -> u32
+    requires { ⌜ (1 ≤ level) × (level ≤ 2) ⌝ }
+    ensures { λ r. ⌜ r ≡ min level (mostOf short) ⌝ }
+{
+    if short { 1 } else { level }
+}
+
+// Of the places of m bit offsets, with lent memory for those that are let through and for what is asked.
+fn find_of(
+    short: bool,
+    m: usize,
     level: u32,
     crcs: &[u32],
     others: &[u32],
-    list: &mut [u8],
+    through: &mut [u16],
+    asked: &mut [u32],
+    list: &mut [u16],
     codes: &mut [u32],
 ) -> Listed
-    ensures { λ r. ⌜ (r, now (list .exit), now (codes .exit)) ≡ repairableInto level (now (crcs .entry)) (now (others .entry)) (now (list .entry)) (now (codes .entry)) ⌝ }
+    requires { ⌜ (m ≤ 87) × (length (now through) ≡ 8 * m) × (length (now asked) ≡ 2 * (8 * m)) ⌝ }
+    ensures { λ r. ⌜ (r, now (list .exit), now (codes .exit)) ≡ repairableInto (bytesOf short) (mostOf short) (8 * m) level (now (crcs .entry)) (now (others .entry)) (now (list .entry)) (now (codes .entry)) ⌝ }
 {
-    if crcs.len() != 248 {
+    if crcs.len() != 8 * m {
         return Listed {
             number: 2,
             count: 0,
         };
     }
-    if others.len() != 248 {
+    if others.len() != 8 * m {
         return Listed {
             number: 2,
             count: 0,
         };
     }
-    if list.len() != 248 {
+    if list.len() != 8 * m {
         return Listed {
             number: 3,
             count: 0,
         };
     }
-    if codes.len() != 496 {
+    if codes.len() != 2 * (8 * m) {
         return Listed {
             number: 3,
             count: 0,
@@ -57,5 +72,67 @@ pub fn find_repairable(
             count: 0,
         };
     }
-    find(level, crcs, others, list, codes)
+    find(
+        short,
+        at_most(short, level),
+        m,
+        crcs,
+        others,
+        through,
+        asked,
+        list,
+        codes,
+    )
+}
+
+// Of the 248 places of 14 bytes, by the remainders of both slicers: their numbers in the order of the search, and the codes of both
+// remainders of each. Refused: 2 not 248 remainders, 3 not room for 248 places and 496 codes, 4 a level above 2.
+pub fn find_repairable(
+    level: u32,
+    crcs: &[u32],
+    others: &[u32],
+    list: &mut [u16],
+    codes: &mut [u32],
+) -> Listed
+    ensures { λ r. ⌜ (r, now (list .exit), now (codes .exit)) ≡ repairableInto 14 2 248 level (now (crcs .entry)) (now (others .entry)) (now (list .entry)) (now (codes .entry)) ⌝ }
+{
+    let mut through = [0u16; 248];
+    let mut asked = [0u32; 496];
+    find_of(
+        false,
+        31,
+        level,
+        crcs,
+        others,
+        &mut through,
+        &mut asked,
+        list,
+        codes,
+    )
+}
+
+// The same of the 696 places of 7 bytes, which at most one repair clears, at any level above 0: 696 remainders, room for 696 places and
+// 1,392 codes.
+pub fn find_repairable_short(
+    level: u32,
+    crcs: &[u32],
+    others: &[u32],
+    list: &mut [u16],
+    codes: &mut [u32],
+) -> Listed
+    ensures { λ r. ⌜ (r, now (list .exit), now (codes .exit)) ≡ repairableInto 7 1 696 level (now (crcs .entry)) (now (others .entry)) (now (list .entry)) (now (codes .entry)) ⌝ }
+{
+    let mut through = [0u16; 696];
+    let mut asked = [0u32; 1392];
+    find_of(
+        true,
+        87,
+        level,
+        crcs,
+        others,
+        &mut through,
+        &mut asked,
+        list,
+        codes,
+    )
 }

@@ -1,6 +1,6 @@
 // The list of the places that a lent hash lets through, in the order of the search, and what is to be asked for them.
 ghost use mathlib.Core.Path.{_≡_};
-ghost use Prim.Native.Nat.{_≤_};
+ghost use Prim.Native.Nat.{_*_, _≤_};
 ghost use lib.ListN.{length, take};
 ghost use Rattle.lists.specs.Bits.{asBit};
 ghost use Rattle.scan.specs.Sieve.{kept, laneOf};
@@ -28,23 +28,25 @@ fn owned(shape: Shape, displacements: &[u8], owners: &[u16], crc: u32) -> usize
     }
 }
 
-// The places of which a remainder does: as many as the answer says, from the front on. Each number is stored, and stays where it counts.
+// The places of m bit offsets of which a remainder does: as many as the answer says, from the front on. Each number is stored, and stays
+// where it counts.
 pub fn list_in(
+    m: usize,
     shape: Shape,
     displacements: &[u8],
     owners: &[u16],
     crcs: &[u32],
     others: &[u32],
-    list: &mut [u8],
+    list: &mut [u16],
 ) -> usize
-    requires { ⌜ Shaped shape (now displacements) (now owners) × (length (now crcs) ≡ 248) × (length (now others) ≡ 248) × (length (now list) ≡ 256) ⌝ }
-    ensures { λ r. ⌜ (r ≤ 248) × (take r (now (list .exit)) ≡ kept (letIn shape (now (displacements .entry)) (now (owners .entry)) (now (crcs .entry)) (now (others .entry))) 248) ⌝ }
+    requires { ⌜ (m ≤ 87) × Shaped shape (now displacements) (now owners) × (length (now crcs) ≡ 8 * m) × (length (now others) ≡ 8 * m) × (length (now list) ≡ 8 * m) ⌝ }
+    ensures { λ r. ⌜ (r ≤ 8 * m) × (take r (now (list .exit)) ≡ kept (letIn shape (now (displacements .entry)) (now (owners .entry)) (now (crcs .entry)) (now (others .entry))) (8 * m)) ⌝ }
 {
     let mut count: usize = 0;
-    for o in 0..31 {
+    for o in 0..m {
         for k in 0..8 {
             let i = 8 * o + 4 * (k % 2) + k / 2;
-            list[count] = (8 * o + k) as u8;
+            list[count] = (8 * o + k) as u16;
             count += owned(shape, displacements, owners, crcs[i])
                 | owned(shape, displacements, owners, others[i]);
         }
@@ -67,7 +69,7 @@ fn ask(shape: Shape, displacements: &[u8], owners: &[u16], crc: u32) -> u32
 }
 
 // Where the remainder of a place stands.
-fn lane(k: u8) -> usize
+fn lane(k: u16) -> usize
     ensures { λ r. ⌜ r ≡ laneOf k ⌝ }
 {
     let place = k as usize;
@@ -76,21 +78,22 @@ fn lane(k: u8) -> usize
 
 // What is asked for the first places of a list, two for each.
 pub fn gather(
+    m: usize,
     shape: Shape,
     displacements: &[u8],
     owners: &[u16],
     crcs: &[u32],
     others: &[u32],
-    list: &[u8],
+    list: &[u16],
     count: usize,
     asked: &mut [u32],
 )
-    requires { ⌜ Shaped shape (now displacements) (now owners) × (length (now crcs) ≡ 248) × (length (now others) ≡ 248) × (length (now list) ≡ 256) × (count ≤ 248) × Within (now list) count × (length (now asked) ≡ 496) ⌝ }
-    ensures { λ _. ⌜ Gathered shape (now (displacements .entry)) (now (owners .entry)) (now (crcs .entry)) (now (others .entry)) (now (list .entry)) (now (asked .exit)) count ⌝ }
+    requires { ⌜ (m ≤ 87) × Shaped shape (now displacements) (now owners) × (length (now crcs) ≡ 8 * m) × (length (now others) ≡ 8 * m) × (length (now list) ≡ 8 * m) × (count ≤ 8 * m) × Within (8 * m) (now list) count × (length (now asked) ≡ 2 * (8 * m)) ⌝ }
+    ensures { λ _. ⌜ Gathered (8 * m) shape (now (displacements .entry)) (now (owners .entry)) (now (crcs .entry)) (now (others .entry)) (now (list .entry)) (now (asked .exit)) count ⌝ }
 {
-    for m in 0..count {
-        let i = lane(list[m]);
-        asked[2 * m] = ask(shape, displacements, owners, crcs[i]);
-        asked[2 * m + 1] = ask(shape, displacements, owners, others[i]);
+    for j in 0..count {
+        let i = lane(list[j]);
+        asked[2 * j] = ask(shape, displacements, owners, crcs[i]);
+        asked[2 * j + 1] = ask(shape, displacements, owners, others[i]);
     }
 }

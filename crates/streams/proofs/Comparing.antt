@@ -101,11 +101,11 @@ module _ (a b : List ℕ) (offset : ℕ) where
   unfolding distanceAt pairNumber
   distance-short h = rw (ne-eqb _ _ h)
 
-  pub distance-refused : {n : ℕ} → length a ≡ 18 → n ≡ streamNumber b offset → (n ≡ 0 → ⊥) → refused n ≡ distanceAt a b offset
+  pub distance-refused : {n : ℕ} → length a ≡ 18 → n ≡ streamNumber 14 b offset → (n ≡ 0 → ⊥) → refused n ≡ distanceAt a b offset
   unfolding distanceAt pairNumber
   distance-refused l e h = rw (eq-eqb _ _ l) (told-refused (differing (messageAt a 14 offset) (messageAt b 14 offset) 112) e h)
 
   pub distance-done : length a ≡ 18 → length b ≡ 18 → offset ≤ 32
       → distanceAt a b offset ≡ done (differing (messageAt a 14 offset) (messageAt b 14 offset) 112)
   unfolding distanceAt pairNumber
-  distance-done l m o = rw (eq-eqb _ _ l, stream-done b offset m o)
+  distance-done l m o = rw (eq-eqb _ _ l, stream-done 14 b offset m o)

@@ -3,10 +3,10 @@
 --     message-part     in the part that starts with the byte of its first bit the message is the same
 --     part-            the answers: refused, done
 -- Assumes nothing.
-use mathlib.Core.Path.{_≡_, refl, sym, ap, _∙_}
+use mathlib.Core.Path.{_≡_, refl, ap, _∙_}
 use mathlib.Core.List.{List}
 use mathlib.Core.Bool.{Bool, true, false, cond}
-use Prim.Native.Nat.{ℕ, zero, suc, _+_, _*_, _/_, _%_, _<_, _≤_}
+use Prim.Native.Nat.{ℕ, zero, suc, _+_, _-_, _*_, _/_, _%_, _<_, _≤_}
 use native.Mathlib.Omega.{arith}
 use borrow.Author.Tests.{eq-eqb, eqb-true, le-leb, leb-true}
 use lib.Dec.{eqb, leb}
@@ -14,10 +14,9 @@ use lib.ListN.{length, take, drop, replicate}
 use lib.Seq.{getD-take, getD-drop}
 use Rattle.lists.specs.Bits.{bitAt, value, packed}
 use Rattle.lists.proofs.Table.{tabulate-is, length-tabulate, getD-tabulate}
-use Rattle.lists.specs.Told.{Told, done, refused, tell}
-use Rattle.lists.proofs.Telling.{same-values, not-done}
+use Rattle.lists.specs.Told.{Told, tell}
 use Rattle.parts.specs.Part.{partSize, sizeAt}
-use Rattle.streams.specs.Streams.{messageAt, partNumber}
+use Rattle.streams.specs.Streams.{messageAt, sizedNumber, partNumber}
 use Rattle.streams.specs.Messages.{partMessage}
 
 -- a bit of a part
@@ -61,47 +60,37 @@ enough n bit = go (eqb (bit % 8) 0) refl
 
 -- ---- which calls are taken
 
-pub record PartTaken (part : List ℕ) (bit : ℕ) : Type 0 where
-  pub size : length part ≡ partSize 14 bit
-  pub low : bit ≤ 32
+pub record PartTaken (n : ℕ) (part : List ℕ) (bit : ℕ) : Type 0 where
+  pub size : length part ≡ partSize n bit
+  pub low : bit ≤ 144 - 8 * n
 
-tested : (part : List ℕ) (bit : ℕ) (t u : Bool) → eqb (length part) (partSize 14 bit) ≡ t → leb bit 32 ≡ u → _≡_ {A = ℕ} (cond u (cond t 0 2) 7) 0
-    → PartTaken part bit
-tested part bit true true a b e = record { size = eqb-true _ _ a; low = leb-true _ _ b }
-tested part bit false true a b e = absurd (omega arith)
-tested part bit t false a b e = absurd (omega arith)
+module _ (n : ℕ) (part : List ℕ) (bit : ℕ) where
+  tested : (t u : Bool) → eqb (length part) (partSize n bit) ≡ t → leb bit (144 - 8 * n) ≡ u
+      → sizedNumber (tell (cond u 0 7) (partSize n bit)) part ≡ 0 → PartTaken n part bit
+  tested true true a b e = record { size = eqb-true _ _ a; low = leb-true _ _ b }
+  tested false true a b e =
+      let z : _≡_ {A = ℕ} 2 0 = rw a at e in
+      absurd (omega arith)
+  tested t false a b e = absurd (omega arith)
 
-pub part-opened : (part : List ℕ) (bit : ℕ) {n : ℕ} → n ≡ partNumber part bit → n ≡ 0 → PartTaken part bit
-unfolding partNumber
-part-opened part bit e z = tested part bit (eqb (length part) (partSize 14 bit)) (leb bit 32) refl refl (sym e ∙ z)
+  pub part-opened : partNumber n part bit ≡ 0 → PartTaken n part bit
+  unfolding partNumber sizeAt
+  part-opened e = tested (eqb (length part) (partSize n bit)) (leb bit (144 - 8 * n)) refl refl e
 
--- the number from the size of the part, or from its refusal
-pub sized : (part : List ℕ) (bit : ℕ) {size n : ℕ} → done size ≡ sizeAt 14 bit → n ≡ cond (eqb (length part) size) 0 2 → n ≡ partNumber part bit
-unfolding sizeAt partNumber
-sized part bit {size} {n} e h = go (leb bit 32) e
-  where
-    go : (b : Bool) → done size ≡ tell (cond b 0 7) (partSize 14 bit) → n ≡ cond b (cond (eqb (length part) (partSize 14 bit)) 0 2) 7
-    go true g = rw (← same-values g) h
-    go false g = absurd (not-done (sym g))
+  -- the number from the size of the part
+  pub sized : {t : Told ℕ} {k : ℕ} → t ≡ sizeAt n bit → k ≡ sizedNumber t part → k ≡ partNumber n part bit
+  unfolding partNumber
+  sized e h = h ∙ ap (λ (t : Told ℕ). sizedNumber t part) e
 
-pub behind : (part : List ℕ) (bit : ℕ) {n : ℕ} → refused n ≡ sizeAt 14 bit → n ≡ partNumber part bit
-unfolding sizeAt partNumber
-behind part bit {n} e = go (leb bit 32) e
-  where
-    go : (b : Bool) → refused n ≡ tell (cond b 0 7) (partSize 14 bit) → n ≡ cond b (cond (eqb (length part) (partSize 14 bit)) 0 2) 7
-    go true g = absurd (not-done g)
-    go false g = ap (λ (t : Told ℕ). t .0) g
+  pub part-refused : {k : ℕ} {m : List ℕ} → k ≡ partNumber n part bit → (k ≡ 0 → ⊥) → m ≡ replicate n 0
+      → record { number = k; bytes = m } ≡ partMessage n part bit
+  unfolding partMessage
+  part-refused {k = zero} e h z = absurd (h refl)
+  part-refused {k = suc k} e h z = rw (← e, z)
 
-pub part-refused : (part : List ℕ) (bit : ℕ) {n : ℕ} → n ≡ partNumber part bit → (n ≡ 0 → ⊥)
-    → record { number = n; bytes = replicate 14 0 } ≡ partMessage part bit
-unfolding partMessage
-part-refused part bit {n = zero} e h = absurd (h refl)
-part-refused part bit {n = suc n} e h = rw (← e)
-
-pub part-done : (part : List ℕ) (bit : ℕ) → length part ≡ partSize 14 bit → bit ≤ 32
-    → partMessage part bit ≡ record { number = 0; bytes = messageAt part 14 (bit % 8) }
-unfolding partMessage partNumber
-part-done part bit a b = simp (eq-eqb _ _ a, le-leb _ _ b)
+  pub part-done : length part ≡ partSize n bit → bit ≤ 144 - 8 * n → partMessage n part bit ≡ record { number = 0; bytes = messageAt part n (bit % 8) }
+  unfolding partMessage partNumber sizeAt
+  part-done a b = simp (eq-eqb _ _ a, le-leb _ _ b)
 
 pub small : (n bit : ℕ) → partSize n bit ≤ n + 1
 unfolding partSize

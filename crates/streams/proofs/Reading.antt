@@ -2,13 +2,13 @@
 --     message-length, message-bit    n bytes, of which bit j is bit offset + j of the stream
 --     message-value                  a run of its bits
 --     message-head                   its first byte
---     stream-done, opened            a call is taken exactly when the stream has 18 bytes and the offset is at most 32
+--     stream-done, opened            a call is taken exactly when the stream has 18 bytes and the message ends within it
 --     extracted-, crc-               the answers: refused, done
 -- Assumes nothing.
 use mathlib.Core.Path.{_≡_, refl, sym, ap, _∙_}
 use mathlib.Core.List.{List}
 use mathlib.Core.Bool.{Bool, true, false, cond}
-use Prim.Native.Nat.{ℕ, zero, suc, _+_, _*_, _<_, _≤_}
+use Prim.Native.Nat.{ℕ, zero, suc, _+_, _-_, _*_, _<_, _≤_}
 use native.Mathlib.Nat.{add-zero}
 use native.Mathlib.Omega.{arith}
 use borrow.Author.Tests.{eqb-true, leb-true, eq-eqb, le-leb}
@@ -49,41 +49,40 @@ module _ (bytes : List ℕ) (n offset : ℕ) where
 
 -- ---- which calls are taken
 
-pub record Taken (bytes : List ℕ) (offset : ℕ) : Type 0 where
+pub record Taken (n : ℕ) (bytes : List ℕ) (offset : ℕ) : Type 0 where
   pub size : length bytes ≡ 18
-  pub low : offset ≤ 32
+  pub low : offset ≤ 144 - 8 * n
 
-pub stream-done : (bytes : List ℕ) (offset : ℕ) → length bytes ≡ 18 → offset ≤ 32 → streamNumber bytes offset ≡ 0
-unfolding streamNumber
-stream-done bytes offset a b = simp (eq-eqb _ _ a, le-leb _ _ b)
+module _ (n : ℕ) (bytes : List ℕ) (offset : ℕ) where
+  pub stream-done : length bytes ≡ 18 → offset ≤ 144 - 8 * n → streamNumber n bytes offset ≡ 0
+  unfolding streamNumber
+  stream-done a b = simp (eq-eqb _ _ a, le-leb _ _ b)
 
-tested : (bytes : List ℕ) (offset : ℕ) (t u : Bool) → eqb (length bytes) 18 ≡ t → leb offset 32 ≡ u → _≡_ {A = ℕ} (cond t (cond u 0 7) 2) 0
-    → Taken bytes offset
-tested bytes offset true true a b e = record { size = eqb-true _ _ a; low = leb-true _ _ b }
-tested bytes offset true false a b e = absurd (omega arith)
-tested bytes offset false u a b e = absurd (omega arith)
+  tested : (t u : Bool) → eqb (length bytes) 18 ≡ t → leb offset (144 - 8 * n) ≡ u → _≡_ {A = ℕ} (cond t (cond u 0 7) 2) 0 → Taken n bytes offset
+  tested true true a b e = record { size = eqb-true _ _ a; low = leb-true _ _ b }
+  tested true false a b e = absurd (omega arith)
+  tested false u a b e = absurd (omega arith)
 
-pub opened : (bytes : List ℕ) (offset : ℕ) {n : ℕ} → n ≡ streamNumber bytes offset → n ≡ 0 → Taken bytes offset
-unfolding streamNumber
-opened bytes offset e z = tested bytes offset (eqb (length bytes) 18) (leb offset 32) refl refl (sym e ∙ z)
+  pub opened : {k : ℕ} → k ≡ streamNumber n bytes offset → k ≡ 0 → Taken n bytes offset
+  unfolding streamNumber
+  opened e z = tested (eqb (length bytes) 18) (leb offset (144 - 8 * n)) refl refl (sym e ∙ z)
 
--- ---- the answers
+  -- ---- the answers
 
-module _ (bytes : List ℕ) (offset : ℕ) where
-  pub extracted-refused : {n : ℕ} → n ≡ streamNumber bytes offset → (n ≡ 0 → ⊥)
-      → record { number = n; bytes = replicate 14 0 } ≡ extracted bytes offset
+  pub extracted-refused : {k : ℕ} {m : List ℕ} → k ≡ streamNumber n bytes offset → (k ≡ 0 → ⊥) → m ≡ replicate n 0
+      → record { number = k; bytes = m } ≡ extracted n bytes offset
   unfolding extracted
-  extracted-refused {n = zero} e h = absurd (h refl)
-  extracted-refused {n = suc n} e h = rw (← e)
+  extracted-refused {k = zero} e h z = absurd (h refl)
+  extracted-refused {k = suc k} e h z = rw (← e, z)
 
-  pub extracted-done : length bytes ≡ 18 → offset ≤ 32 → extracted bytes offset ≡ record { number = 0; bytes = messageAt bytes 14 offset }
+  pub extracted-done : length bytes ≡ 18 → offset ≤ 144 - 8 * n → extracted n bytes offset ≡ record { number = 0; bytes = messageAt bytes n offset }
   unfolding extracted
-  extracted-done a b = rw (stream-done bytes offset a b)
+  extracted-done a b = rw (stream-done a b)
 
-  pub crc-refused : {n : ℕ} → n ≡ streamNumber bytes offset → (n ≡ 0 → ⊥) → refused n ≡ crcAt bytes offset
+  pub crc-refused : {k : ℕ} → k ≡ streamNumber n bytes offset → (k ≡ 0 → ⊥) → refused k ≡ crcAt n bytes offset
   unfolding crcAt
-  crc-refused = told-refused (remainder (messageAt bytes 14 offset))
+  crc-refused = told-refused (remainder (messageAt bytes n offset))
 
-  pub crc-done : length bytes ≡ 18 → offset ≤ 32 → crcAt bytes offset ≡ done (remainder (messageAt bytes 14 offset))
+  pub crc-done : length bytes ≡ 18 → offset ≤ 144 - 8 * n → crcAt n bytes offset ≡ done (remainder (messageAt bytes n offset))
   unfolding crcAt
-  crc-done a b = rw (stream-done bytes offset a b)
+  crc-done a b = rw (stream-done a b)

@@ -18,7 +18,7 @@ differing x y (suc n) = differing x y n + cond (eqb (bitAt x n) (bitAt y n)) 0 1
 
 -- the number of a call with two streams
 unfoldable pub pairNumber : List ℕ → List ℕ → ℕ → ℕ
-pairNumber a b offset = cond (eqb (length a) 18) (streamNumber b offset) 2
+pairNumber a b offset = cond (eqb (length a) 18) (streamNumber 14 b offset) 2
 
 -- an answer: its number, and the distance with number 0
 abbrev pub distanceTold : Distance → Told ℕ

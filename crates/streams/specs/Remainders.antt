@@ -1,4 +1,4 @@
--- What `compute_crc` answers.
+-- What `compute_crc` and `compute_crc_short` answer.
 -- Assumes nothing.
 use mathlib.Core.List.{List}
 use Prim.Native.Nat.{ℕ}
@@ -13,6 +13,6 @@ abbrev pub crcTold : Crc → Told ℕ
 crcTold (Is r) = done r
 crcTold (Refused n) = refused n
 
--- the remainder of the message at a bit offset
-unfoldable pub crcAt : List ℕ → ℕ → Told ℕ
-crcAt bytes offset = tell (streamNumber bytes offset) (remainder (messageAt bytes 14 offset))
+-- the remainder of the message of n bytes at a bit offset
+unfoldable pub crcAt : ℕ → List ℕ → ℕ → Told ℕ
+crcAt n bytes offset = tell (streamNumber n bytes offset) (remainder (messageAt bytes n offset))

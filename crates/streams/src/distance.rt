@@ -31,7 +31,7 @@ pub fn compute_hamming_distance(a: &[u8], b: &[u8], offset: usize) -> Distance
     if a.len() != 18 {
         return Distance::Refused(2);
     }
-    let number = stream_number(b, offset);
+    let number = stream_number(14, b, offset);
     if number != 0 {
         return Distance::Refused(number);
     }

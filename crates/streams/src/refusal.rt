@@ -1,20 +1,22 @@
 // What every call at a bit offset of a stream refuses.
 use parts::PartSize;
-use parts::part_size;
-use place::Place;
 ghost use mathlib.Core.Path.{_≡_};
 ghost use mathlib.Core.Bool.{cond};
+ghost use Prim.Native.Nat.{_≤_};
 ghost use lib.Dec.{eqb};
 ghost use lib.ListN.{length};
-ghost use Rattle.streams.specs.Streams.{streamNumber, partNumber};
+ghost use Rattle.parts.specs.Part.{sizeTold};
+ghost use Rattle.streams.specs.Streams.{streamNumber, sizedNumber};
 
-pub fn stream_number(bytes: &[u8], offset: usize) -> u32
-    ensures { λ r. ⌜ r ≡ streamNumber (now (bytes .entry)) offset ⌝ }
+// For a message of n bytes.
+pub fn stream_number(n: usize, bytes: &[u8], offset: usize) -> u32
+    requires { ⌜ n ≤ 18 ⌝ }
+    ensures { λ r. ⌜ r ≡ streamNumber n (now (bytes .entry)) offset ⌝ }
 {
     if bytes.len() != 18 {
         return 2;
     }
-    if offset > Place::BIT_MAX { // a message from the next bit on would end behind the stream
+    if offset > 144 - 8 * n { // a message from the next bit on would end behind the stream
         return 7;
     }
     0
@@ -29,11 +31,11 @@ fn length_number(part: &[u8], size: usize) -> u32
     0
 }
 
-// What a call at a part of a stream refuses.
-pub fn part_number(part: &[u8], offset: usize) -> u32
-    ensures { λ r. ⌜ r ≡ partNumber (now (part .entry)) offset ⌝ }
+// What a call at a part of a stream refuses, from the size that the part has to have.
+pub fn part_number(size: PartSize, part: &[u8]) -> u32
+    ensures { λ r. ⌜ r ≡ sizedNumber (sizeTold size) (now (part .entry)) ⌝ }
 {
-    match part_size(offset) {
+    match size {
         PartSize::Is(size) => length_number(part, size),
         PartSize::Refused(number) => number,
     }

@@ -1,23 +1,16 @@
--- `parts::part_size` meets its contract.
+-- `parts::part_size` meets its contract: its body's, at 14 bytes.
 -- Assumes nothing.
-use mathlib.Core.Path.{_∙_, ap}
-use borrow.Author.Tests.{le-leb, lt-leb}
-use Rattle.lists.specs.Told.{done}
 use Rattle.parts.specs.Part.{sizeAt}
 use borrow.Author.Needs.{needs}
 use Rattle.parts.proofs.part_size.Statement.{statement}
 use Rattle.parts.proofs.part_size.Tie as tie
 
+size-to-requires : tie.Need-size-to-requires
+size-to-requires c κs = search needs
+
 returns : tie.Need-returns
 unfolding sizeAt
-returns c = rw (lt-leb _ _ (c .if1 .taken))
-
-bytes-from-requires : tie.Need-bytes-from-requires
-bytes-from-requires c κs = search needs
-
-returns-2 : tie.Need-returns-2
-unfolding sizeAt
-returns-2 c = ap done (c .bytes-from .ensures) ∙ rw (le-leb _ _ (c .before .if1 .left))
+returns c = c .size-to .ensures
 
 pub part-size-spec : {M : Type 1} → statement M
-part-size-spec = tie.close (tie.spec returns bytes-from-requires returns-2)
+part-size-spec = tie.close (tie.spec size-to-requires returns)

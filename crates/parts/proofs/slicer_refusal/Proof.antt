@@ -1,25 +1,16 @@
--- `parts::slicer_refusal` meets its contract: the lengths first, then the bit offset.
+-- `parts::slicer_refusal` meets its contract: its body's, at 14 bytes.
 -- Assumes nothing.
-use borrow.Author.Tests.{le-leb, lt-leb, eq-eqb, ne-eqb}
 use Rattle.parts.specs.Part.{streamsRefusal}
+use borrow.Author.Needs.{needs}
 use Rattle.parts.proofs.slicer_refusal.Statement.{statement}
 use Rattle.parts.proofs.slicer_refusal.Tie as tie
 
+refusal-to-requires : tie.Need-refusal-to-requires
+refusal-to-requires c κs = search needs
+
 returns : tie.Need-returns
 unfolding streamsRefusal
-returns c = rw (ne-eqb _ _ (c .if1 .taken))
-
-returns-2 : tie.Need-returns-2
-unfolding streamsRefusal
-returns-2 c = rw (eq-eqb _ _ (c .before .if1 .left), ne-eqb _ _ (c .if2 .taken))
-
-returns-3 : tie.Need-returns-3
-unfolding streamsRefusal
-returns-3 c = rw (eq-eqb _ _ (c .before .before .if1 .left), eq-eqb _ _ (c .before .if2 .left), lt-leb _ _ (c .if3 .taken))
-
-returns-4 : tie.Need-returns-4
-unfolding streamsRefusal
-returns-4 c = rw (eq-eqb _ _ (c .before .before .if1 .left), eq-eqb _ _ (c .before .if2 .left), le-leb _ _ (c .if3 .left))
+returns c = c .refusal-to .ensures
 
 pub slicer-refusal-spec : {M : Type 1} → statement M
-slicer-refusal-spec = tie.close (tie.spec returns returns-2 returns-3 returns-4)
+slicer-refusal-spec = tie.close (tie.spec refusal-to-requires returns)

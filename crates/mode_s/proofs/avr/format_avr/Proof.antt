@@ -8,9 +8,10 @@ use native.Mathlib.Omega.{arith}
 use lib.ListN.{length, length-set}
 use borrow.Author.Needs.{needs}
 use Rattle.lists.proofs.Table.{Done, done-none, done-more, done-all}
+use Rattle.annex10.proofs.Length.{message-small}
 use Rattle.mode_s.specs.Avr.{avrLine}
 use Rattle.mode_s.specs.Inner.{avrByte}
-use Rattle.mode_s.proofs.Text.{avr-whole, message-small}
+use Rattle.mode_s.proofs.Text.{avr-whole}
 use Rattle.mode_s.proofs.avr.format_avr.Statement.{statement}
 use Rattle.mode_s.proofs.avr.format_avr.Tie as tie
 

@@ -5,6 +5,7 @@ use Prim.Native.Nat.{ℕ, _<_}
 use borrow.Author.Tests.{eq-eqb, ne-eqb, lt-leb}
 use lib.ListN.{length}
 use Rattle.lists.specs.Told.{done, refused}
+use Rattle.annex10.specs.Header.{longHeader}
 use Rattle.annex10.specs.declared.Repairs.{Repairs}
 use Rattle.mode_s.specs.Counted.{countedRepairs}
 use Rattle.streams.specs.Headers.{validityAt}
@@ -23,7 +24,7 @@ module _ (bytes : List ℕ) (offset count j k : ℕ) {x : FlatNumber} where
   unfolding countedValidity countedRepairs
   miscounted l h e = e ∙ rw (eq-eqb _ _ l, lt-leb _ _ h)
 
-  checked : {ρ : Repairs} → length bytes ≡ 18 → done ρ ≡ countedRepairs count j k → x ≡ flatTruth (validityAt bytes offset ρ)
+  checked : {ρ : Repairs} → length bytes ≡ 18 → done ρ ≡ countedRepairs count j k → x ≡ flatTruth (validityAt 14 longHeader bytes offset ρ)
       → x ≡ flatTruth (countedValidity bytes offset count j k)
   unfolding countedValidity
   checked l r e = e ∙ rw (eq-eqb _ _ l, ← r)

@@ -14,7 +14,7 @@ returns : tie.Need-returns
 returns c = kept (c .before .before .before .before .args .c) (sym (not-two (c .before .before .before .before .args .s) _ (c .before .before .before .before .args .c) (c .before .repairs-of .ensures) (c .if1 .taken)))
 
 distance-at-requires : tie.Need-distance-at-requires
-distance-at-requires c κs = search needs
+distance-at-requires c κs = c .before .before .before .before .pre .0 (sym (c .before .repairs-of .ensures) ∙ c .if1 .left)
 
 is-dropped-requires : tie.Need-is-dropped-requires
 is-dropped-requires c κs = search needs

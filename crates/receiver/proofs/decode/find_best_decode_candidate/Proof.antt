@@ -1,6 +1,10 @@
 -- `receiver::decode::find_best_decode_candidate` meets its contract. Assumes nothing.
 use mathlib.Core.Path.{refl}
+use Rattle.search.specs.Kinds.{long}
+use Rattle.search.specs.Choice.{best}
+use Rattle.search.specs.Seen.{seen}
 use Rattle.receiver.proofs.Deciding.{best-taken, best-refused, best-done}
+use Rattle.receiver.proofs.Widening.{held-long}
 use borrow.Author.Needs.{needs}
 use Rattle.receiver.proofs.decode.find_best_decode_candidate.Statement.{statement}
 use Rattle.receiver.proofs.decode.find_best_decode_candidate.Tie as tie
@@ -14,7 +18,7 @@ unread-requires c κs = search needs
 returns : tie.Need-returns
 returns c =
     let a = c .before .before .before .before .args in
-    best-refused (a .samples .now) (a .s) (c .before .before .best-number .ensures) (c .before .if1 .taken) (c .unread .ensures)
+    best-refused long (a .samples .now) (a .s) (c .before .before .best-number .ensures) (c .before .if1 .taken) (c .unread .ensures)
 
 slice-aggregate-best-of : tie.Need-slice-aggregate-best-of
 slice-aggregate-best-of c = search needs
@@ -22,13 +26,13 @@ slice-aggregate-best-of c = search needs
 best-of-requires : tie.Need-best-of-requires
 best-of-requires c κs =
     let a = c .before .before .before .before .args in
-    let t = best-taken (a .samples .now) (c .before .if1 .left) (a .s) (c .before .before .best-number .ensures) in
+    let t = best-taken long (a .samples .now) (c .before .if1 .left) (a .s) (c .before .before .best-number .ensures) in
     (t .whole, t .settings, refl)
 
 returns-2 : tie.Need-returns-2
 returns-2 c =
     let a = c .before .before .before .before .before .before .args in
-    best-done (a .samples .now) (a .s) (c .before .before .before .before .best-number .ensures) (c .before .before .before .if1 .left) (c .before .best-of .ensures .0)
+    best-done long (a .samples .now) (a .s) (c .before .before .before .before .best-number .ensures) (c .before .before .before .if1 .left) (held-long (best long (a .s) (seen long (a .samples .now))) (c .before .best-of .ensures .0))
 
 pub find-best-decode-candidate-spec : {M : Type 1} → statement M
 find-best-decode-candidate-spec =

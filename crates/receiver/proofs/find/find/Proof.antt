@@ -3,27 +3,26 @@
 use mathlib.Core.Path.{_≡_, sym, ap, _∙_, subst}
 use mathlib.Core.Bool.{true}
 use mathlib.Core.Option.{none}
-use Prim.Native.Nat.{ℕ, _+_, _-_, _*_, _≤_, _<_}
+use Prim.Native.Nat.{ℕ, _+_, _-_, _*_, _≤_, _<_, min}
 use native.Mathlib.Omega.{arith}
 use lib.ListN.{getD, take}
 use Rattle.place.specs.declared.Place.{Place}
 use Rattle.place.specs.All.{listed, placeAt}
 use Rattle.place.proofs.All.{listed-at}
 use Rattle.search.specs.Choice.{candidateAt}
-use Rattle.search.specs.Kinds.{long}
-use Rattle.search.specs.Seen.{windowOf}
-use Rattle.search.specs.Answers.{survivorOf}
-use Rattle.receiver.specs.Inner.{over}
+use Rattle.search.specs.Seen.{seen}
+use Rattle.receiver.specs.Inner.{kindOf, heldOf, over}
+use Rattle.receiver.proofs.EitherKind.{right}
 use borrow.Author.Needs.{needs}
 use Rattle.receiver.proofs.Listed.{found-none, found-more, listed-finds}
 use Rattle.receiver.proofs.find.find.Statement.{statement}
 use Rattle.receiver.proofs.find.find.Tie as tie
 
 abbrev Inv-loop : tie.InvT-loop
-Inv-loop samples symbols coherent noncoherent crcs others list codes count s held₀ q₀ held q = (q ≤ count) × (held ≡ survivorOf (over (candidateAt long s (windowOf 14 samples)) placeAt none (take q list)))
+Inv-loop kind samples symbols coherent noncoherent crcs others list codes count s held₀ q₀ held q = (q ≤ count) × (held ≡ heldOf (kindOf kind) (over (candidateAt (kindOf kind) s (seen (kindOf kind) samples)) placeAt none (take q list)))
 
 abbrev μ-loop : tie.MeasureT-loop
-μ-loop samples symbols coherent noncoherent crcs others list codes count s held₀ q₀ held q = count - q
+μ-loop kind samples symbols coherent noncoherent crcs others list codes count s held₀ q₀ held q = count - q
 
 nothing-requires : tie.Need-nothing-requires Inv-loop μ-loop
 nothing-requires c κs = search needs
@@ -31,38 +30,41 @@ nothing-requires c κs = search needs
 loop-holds : tie.Need-loop-holds Inv-loop μ-loop
 loop-holds c =
     let s = c .before .before .before .before .before .before .before .before .before .args in
-    (omega arith, c .nothing .ensures ∙ ap survivorOf (found-none (candidateAt long (s .s) (windowOf 14 (s .samples .now))) (s .list .now)))
+    (omega arith, c .nothing .ensures ∙ ap (heldOf (kindOf (s .kind))) (found-none (candidateAt (kindOf (s .kind)) (s .s) (seen (kindOf (s .kind)) (s .samples .now))) (s .list .now)))
 
 mul-read-at : tie.Need-mul-read-at Inv-loop μ-loop
-mul-read-at c = let s = c .before .before .before .before .before .before .before .before .before .before .before in omega (arith, s .pre .1 .few, s .pre .1 .places, s .pre .1 .many)
+mul-read-at c = let s = c .before .before .before .before .before .before .before .before .before .before .before in omega (arith, s .pre .1 .few, s .pre .1 .places, s .pre .1 .many, right (s .args .kind) .last)
 
 mul-read-at-2 : tie.Need-mul-read-at-2 Inv-loop μ-loop
-mul-read-at-2 c = let s = c .before .before .before .before .before .before .before .before .before .before .before in omega (arith, s .pre .1 .few, s .pre .1 .places, s .pre .1 .many)
+mul-read-at-2 c = let s = c .before .before .before .before .before .before .before .before .before .before .before in omega (arith, s .pre .1 .few, s .pre .1 .places, s .pre .1 .many, right (s .args .kind) .last)
 
 shared-slice-read-read-at : tie.Need-shared-slice-read-read-at Inv-loop μ-loop
-shared-slice-read-read-at c = let s = c .before .before .before .before .before .before .before .before .before .before .before .before in omega (arith, s .pre .1 .few, s .pre .1 .places, s .pre .1 .many)
+shared-slice-read-read-at c = let s = c .before .before .before .before .before .before .before .before .before .before .before .before in omega (arith, s .pre .1 .few, s .pre .1 .places, s .pre .1 .many, right (s .args .kind) .last)
 
 mul-read-at-3 : tie.Need-mul-read-at-3 Inv-loop μ-loop
-mul-read-at-3 c = let s = c .before .before .before .before .before .before .before .before .before .before .before .before in omega (arith, s .pre .1 .few, s .pre .1 .places, s .pre .1 .many)
+mul-read-at-3 c = let s = c .before .before .before .before .before .before .before .before .before .before .before .before in omega (arith, s .pre .1 .few, s .pre .1 .places, s .pre .1 .many, right (s .args .kind) .last)
 
 add-read-at : tie.Need-add-read-at Inv-loop μ-loop
-add-read-at c = let s = c .before .before .before .before .before .before .before .before .before .before .before .before in omega (arith, s .pre .1 .few, s .pre .1 .places, s .pre .1 .many)
+add-read-at c = let s = c .before .before .before .before .before .before .before .before .before .before .before .before in omega (arith, s .pre .1 .few, s .pre .1 .places, s .pre .1 .many, right (s .args .kind) .last)
 
 mul-read-at-4 : tie.Need-mul-read-at-4 Inv-loop μ-loop
-mul-read-at-4 c = let s = c .before .before .before .before .before .before .before .before .before .before .before .before in omega (arith, s .pre .1 .few, s .pre .1 .places, s .pre .1 .many)
+mul-read-at-4 c = let s = c .before .before .before .before .before .before .before .before .before .before .before .before in omega (arith, s .pre .1 .few, s .pre .1 .places, s .pre .1 .many, right (s .args .kind) .last)
 
 shared-slice-read-read-at-2 : tie.Need-shared-slice-read-read-at-2 Inv-loop μ-loop
-shared-slice-read-read-at-2 c = let s = c .before .before .before .before .before .before .before .before .before .before .before .before .before in omega (arith, s .pre .1 .few, s .pre .1 .places, s .pre .1 .many)
+shared-slice-read-read-at-2 c = let s = c .before .before .before .before .before .before .before .before .before .before .before .before .before in omega (arith, s .pre .1 .few, s .pre .1 .places, s .pre .1 .many, right (s .args .kind) .last)
+
+mul-place-at : tie.Need-mul-place-at Inv-loop μ-loop
+mul-place-at c = let s = c .before .before .before .before .before .before .before .before .before .before .before .before .before in omega (arith, s .pre .1 .few, s .pre .1 .places, s .pre .1 .many, right (s .args .kind) .last)
 
 shared-slice-read-place-at : tie.Need-shared-slice-read-place-at Inv-loop μ-loop
-shared-slice-read-place-at c = let s = c .before .before .before .before .before .before .before .before .before .before .before .before .before .before in omega (arith, s .pre .1 .few, s .pre .1 .places, s .pre .1 .many)
+shared-slice-read-place-at c = let s = c .before .before .before .before .before .before .before .before .before .before .before .before .before .before in omega (arith, s .pre .1 .few, s .pre .1 .places, s .pre .1 .many, right (s .args .kind) .last)
 
 cast-place-at : tie.Need-cast-place-at Inv-loop μ-loop
 cast-place-at c =
     let l = c .before .before .before .before .loop in
     let s = c .before .before .before .before .before .before .before .before .before .before .before .before .before .before in
     let h : l .q < s .args .count = omega (arith, c .before .before .before .loop-test .taken) in
-    omega (arith, s .pre .1 .low (l .q) h)
+    omega (arith, s .pre .1 .low (l .q) h, right (s .args .kind) .last)
 
 place-at-requires : tie.Need-place-at-requires Inv-loop μ-loop
 place-at-requires c κs =
@@ -78,17 +80,17 @@ read-at-requires c κs =
     let e = c .place-at .ensures in
     let k = getD (s .args .list .now) (l .q) 0 in (
       s .pre .0,
-      subst (λ (p : Place). listed 31 p ≡ true) (sym e) (listed-at 31 k (s .pre .1 .low (l .q) h)),
+      subst (λ (p : Place). listed (kindOf (s .args .kind) .last) p ≡ true) (sym e) (listed-at (kindOf (s .args .kind) .last) k (s .pre .1 .low (l .q) h)),
       s .pre .2,
-      listed-finds (s .args .s .level) (s .args .crcs .now) (getD (s .args .codes .now) (2 * l .q) 0) k e (s .pre .1 .first (l .q) h),
-      listed-finds (s .args .s .level) (s .args .others .now) (getD (s .args .codes .now) (2 * l .q + 1) 0) k e (s .pre .1 .second (l .q) h),
+      listed-finds (kindOf (s .args .kind)) (min (s .args .s .level) (kindOf (s .args .kind) .most)) (s .args .crcs .now) (getD (s .args .codes .now) (2 * l .q) 0) k e (s .pre .1 .first (l .q) h),
+      listed-finds (kindOf (s .args .kind)) (min (s .args .s .level) (kindOf (s .args .kind) .most)) (s .args .others .now) (getD (s .args .codes .now) (2 * l .q + 1) 0) k e (s .pre .1 .second (l .q) h),
     )
 
 choose-requires : tie.Need-choose-requires Inv-loop μ-loop
 choose-requires c κs = search needs
 
 add-q : tie.Need-add-q Inv-loop μ-loop
-add-q c = let s = c .before .before .before .before .before .before .before .before .before .before .before .before .before .before .before .before .before in omega (arith, s .pre .1 .few)
+add-q c = let s = c .before .before .before .before .before .before .before .before .before .before .before .before .before .before .before .before .before in omega (arith, s .pre .1 .few, right (s .args .kind) .last)
 
 loop-less : tie.Need-loop-less Inv-loop μ-loop
 loop-less c = omega arith
@@ -98,10 +100,11 @@ loop-again c =
     let l = c .before .before .before .before .before .before .before .loop in
     let s = c .before .before .before .before .before .before .before .before .before .before .before .before .before .before .before .before .before in
     let h : l .q < s .args .count = omega (arith, c .before .before .before .before .before .before .loop-test .taken) in
-    let f = candidateAt long (s .args .s) (windowOf 14 (s .args .samples .now)) in (
+    let k = kindOf (s .args .kind) in
+    let f = candidateAt k (s .args .s) (seen k (s .args .samples .now)) in (
       omega arith,
-      found-more f (s .args .list .now) (l .q) (omega (arith, s .pre .1 .few, s .pre .1 .places)) (l .inv .1)
-          (c .before .read-at .ensures ∙ ap (λ (p : Place). survivorOf (f p)) (c .before .before .place-at .ensures)) (c .choose .ensures),
+      found-more k f (s .args .list .now) (l .q) (omega (arith, s .pre .1 .few, s .pre .1 .places)) (l .inv .1)
+          (c .before .read-at .ensures ∙ ap (λ (p : Place). heldOf k (f p)) (c .before .before .place-at .ensures)) (c .choose .ensures),
     )
 
 returns : tie.Need-returns Inv-loop μ-loop
@@ -109,7 +112,7 @@ returns c =
     let l = c .before .loop in
     let s = c .before .before .before .before .before .before .before .before .before .before .before .args in
     let e : l .q ≡ s .count = omega arith in
-    l .inv .1 ∙ ap (λ (n : ℕ). survivorOf (over (candidateAt long (s .s) (windowOf 14 (s .samples .now))) placeAt none (take n (s .list .now)))) e
+    l .inv .1 ∙ ap (λ (n : ℕ). heldOf (kindOf (s .kind)) (over (candidateAt (kindOf (s .kind)) (s .s) (seen (kindOf (s .kind)) (s .samples .now))) placeAt none (take n (s .list .now)))) e
 
 pub find-spec : {M : Type 1} → statement M
 find-spec =
@@ -126,6 +129,7 @@ find-spec =
     add-read-at
     mul-read-at-4
     shared-slice-read-read-at-2
+    mul-place-at
     shared-slice-read-place-at
     cast-place-at
     place-at-requires

@@ -1,33 +1,52 @@
--- `receiver::message::message_at` meets its contract: neither the part nor the repair is refused.
+-- `receiver::message::message_at` meets its contract: a long message fills the room, a short one has zeros behind it.
 -- Assumes nothing.
-use Rattle.receiver.proofs.Looking.{message-is}
+use mathlib.Core.Path.{_≡_, ap, _∙_, subst}
+use mathlib.Core.Bool.{true}
+use mathlib.Core.List.{List, _++_}
+use Prim.Native.Nat.{ℕ}
+use lib.ListN.{replicate}
+use Rattle.annex10.specs.Repair.{inside}
+use Rattle.mode_s.specs.declared.message.MessageKind.{MessageKind}
+use Rattle.mode_s.specs.declared.message.ModeSMessage.{ModeSMessage}
+use Rattle.parts.specs.Part.{chosen}
+use Rattle.search.specs.Kinds.{long, short}
+use Rattle.receiver.specs.Inner.{Streams, kindOf}
+use Rattle.receiver.proofs.Widening.{room-long, room-short}
 use borrow.Author.Needs.{needs}
 use Rattle.receiver.proofs.message.message_at.Statement.{statement}
 use Rattle.receiver.proofs.message.message_at.Tie as tie
 
-slicer-part-requires : tie.Need-slicer-part-requires
-slicer-part-requires c κs = search needs
+enum-told : tie.Need-enum-told
+enum-told c = search needs
 
-message-from-part-requires : tie.Need-message-from-part-requires
-message-from-part-requires c κs = search needs
+long-at-requires : tie.Need-long-at-requires
+unfolding long
+long-at-requires c κs =
+    let a = c .before .before .before .before .args in
+    subst (λ (k : MessageKind). Streams (kindOf k) (a .coherent .now) (a .noncoherent .now) (a .bit) × (inside (kindOf k .bytes) (a .repairs) ≡ true)) (c .enum-told .given .1) (c .before .before .before .before .pre)
 
-slice-aggregate-correct-message-bit-errors : tie.Need-slice-aggregate-correct-message-bit-errors
-slice-aggregate-correct-message-bit-errors c = search needs
+enum-told-2 : tie.Need-enum-told-2
+enum-told-2 c = search needs
 
-correct-message-bit-errors-requires : tie.Need-correct-message-bit-errors-requires
-correct-message-bit-errors-requires c κs = search needs
+short-at-requires : tie.Need-short-at-requires
+unfolding short
+short-at-requires c κs =
+    let a = c .before .before .before .before .args in
+    subst (λ (k : MessageKind). Streams (kindOf k) (a .coherent .now) (a .noncoherent .now) (a .bit) × (inside (kindOf k .bytes) (a .repairs) ≡ true)) (c .enum-told2 .given .1) (c .before .before .before .before .pre)
+
+short-requires : tie.Need-short-requires
+short-requires c κs = search needs
 
 returns : tie.Need-returns
-returns c =
-    let s = c .before .before .before .before .before .before .before .before in
-    message-is (s .args .coherent .now) (s .args .noncoherent .now) (s .args .bit) (s .args .slicer) (s .args .repairs) (s .pre .0) (s .pre .1) (s .pre .2) (s .pre .3) (c .before .before .before .before .before .slicer-part .ensures) (c .before .before .before .before .message-from-part .ensures) (c .before .correct-message-bit-errors .ensures)
+returns c = let a = c .before .before .before .before .before .args in room-long (a .kind) (chosen (a .slicer) (a .coherent .now) (a .noncoherent .now)) (a .bit) (a .repairs) (c .before .enum-told .given .1) (c .long-at .ensures)
+
+returns-2 : tie.Need-returns-2
+returns-2 c =
+    let a = c .before .before .before .before .before .before .before .args in
+    room-short (a .kind) (chosen (a .slicer) (a .coherent .now) (a .noncoherent .now)) (a .bit) (a .repairs) (c .before .before .before .enum-told2 .given .1)
+    (ap (λ (m : ModeSMessage). m .bytes) (c .before .short .ensures) ∙ ap (λ (b : List ℕ). b ++ replicate 7 0) (c .before .before .short-at .ensures))
 
 pub message-at-spec : {M : Type 1} → statement M
 message-at-spec =
     tie.close
-    (tie.spec
-    slicer-part-requires
-    message-from-part-requires
-    slice-aggregate-correct-message-bit-errors
-    correct-message-bit-errors-requires
-    returns)
+    (tie.spec enum-told long-at-requires enum-told-2 short-at-requires short-requires returns returns-2)

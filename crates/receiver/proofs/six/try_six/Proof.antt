@@ -13,22 +13,22 @@ both-requires-2 : tie.Need-both-requires-2
 both-requires-2 c κs = search needs
 
 then-try-requires : tie.Need-then-try-requires
-then-try-requires c κs = let s = c .before .before .before .before in (s .pre .0 .first, s .pre .0 .low, s .pre .1 .first .lies)
+then-try-requires c κs = let s = c .before .before .before .before in (s .pre .0 .first, s .pre .1 .first .lies)
 
 then-try-requires-2 : tie.Need-then-try-requires-2
-then-try-requires-2 c κs = let s = c .before .before .before .before .before in (s .pre .0 .second, s .pre .0 .low, s .pre .1 .second .lies)
+then-try-requires-2 c κs = let s = c .before .before .before .before .before in (s .pre .0 .second, s .pre .1 .second .lies)
 
 then-try-requires-3 : tie.Need-then-try-requires-3
-then-try-requires-3 c κs = let s = c .before .before .before .before .before .before in (s .pre .0 .first, s .pre .0 .low, s .pre .1 .first .lies)
+then-try-requires-3 c κs = let s = c .before .before .before .before .before .before in (s .pre .0 .first, s .pre .1 .first .lies)
 
 then-try-requires-4 : tie.Need-then-try-requires-4
-then-try-requires-4 c κs = let s = c .before .before .before .before .before .before .before in (s .pre .0 .second, s .pre .0 .low, s .pre .1 .second .lies)
+then-try-requires-4 c κs = let s = c .before .before .before .before .before .before .before in (s .pre .0 .second, s .pre .1 .second .lies)
 
 then-try-requires-5 : tie.Need-then-try-requires-5
-then-try-requires-5 c κs = let s = c .before .before .before .before .before .before .before .before in (s .pre .0 .first, s .pre .0 .low, s .pre .1 .first .lies)
+then-try-requires-5 c κs = let s = c .before .before .before .before .before .before .before .before in (s .pre .0 .first, s .pre .1 .first .lies)
 
 then-try-requires-6 : tie.Need-then-try-requires-6
-then-try-requires-6 c κs = let s = c .before .before .before .before .before .before .before .before .before in (s .pre .0 .second, s .pre .0 .low, s .pre .1 .second .lies)
+then-try-requires-6 c κs = let s = c .before .before .before .before .before .before .before .before .before in (s .pre .0 .second, s .pre .1 .second .lies)
 
 returns : tie.Need-returns
 returns c =
@@ -42,7 +42,7 @@ returns c =
     (c .before .before .then-try4 .ensures)
     (c .before .then-try5 .ensures)
     (c .then-try6 .ensures)
-    ∙ reading-by _ _ _ (k .first) (k .second) (k .differ)
+    ∙ reading-by _ _ _ _ (k .first) (k .second) (k .differ)
 
 pub try-six-spec : {M : Type 1} → statement M
 try-six-spec =

@@ -7,13 +7,15 @@ use Prim.Native.Nat.{ℕ, _-_}
 use mathlib.Core.Bool.{true}
 use Rattle.place.specs.declared.Place.{Place}
 use Rattle.place.specs.Step.{within}
+use Rattle.receiver.specs.Inner.{kindOf}
+use Rattle.receiver.proofs.EitherKind.{right}
 use Rattle.receiver.proofs.Prompting.{earlier-is, back-within}
 use borrow.Author.Needs.{needs}
 use Rattle.receiver.proofs.subsample.earlier.Statement.{statement}
 use Rattle.receiver.proofs.subsample.earlier.Tie as tie
 
-earlier-requires : tie.Need-earlier-requires
-earlier-requires c κs = search needs
+step-back-requires : tie.Need-step-back-requires
+step-back-requires c κs = search needs
 
 enum-known-p : tie.Need-enum-known-p
 enum-known-p c = search needs
@@ -24,18 +26,18 @@ enum-told c = search needs
 returns : tie.Need-returns
 returns c =
     let s = c .before .before .before .before in
-    let e = earlier-is (s .args .place) (c .before .before .before .earlier .result) (s .pre .0) (s .pre .1) (c .before .before .before .earlier .ensures) in
+    let e = earlier-is (kindOf (s .args .kind)) (right (s .args .kind)) (s .args .place) (c .before .before .before .step-back .result) (s .pre .0) (s .pre .1) (c .before .before .before .step-back .ensures) in
     let f = c .before .p .given .1 in
     let q : c .before .p .given .0 .0 ≡ startingAt (sampleStart (s .args .place) - 1) = cc in
-    (q, subst (λ (p : Place). within 14 p ≡ true) (sym q) (back-within (s .args .place) (s .pre .0)))
+    (q, subst (λ (p : Place). within (kindOf (s .args .kind) .bytes) p ≡ true) (sym q) (back-within (kindOf (s .args .kind)) (right (s .args .kind)) (s .args .place) (s .pre .0)))
 
 returns-2 : tie.Need-returns-2
 returns-2 c =
     let s = c .before .before .before in
-    let e = earlier-is (s .args .place) (c .before .before .earlier .result) (s .pre .0) (s .pre .1) (c .before .before .earlier .ensures) in
+    let e = earlier-is (kindOf (s .args .kind)) (right (s .args .kind)) (s .args .place) (c .before .before .step-back .result) (s .pre .0) (s .pre .1) (c .before .before .step-back .ensures) in
     let f = c .enum-told .given .1 in
     let z : _≡_ {A = ℕ} 0 1 = cc in
     absurd (omega arith)
 
 pub earlier-spec : {M : Type 1} → statement M
-earlier-spec = tie.close (tie.spec earlier-requires enum-known-p enum-told returns returns-2)
+earlier-spec = tie.close (tie.spec step-back-requires enum-known-p enum-told returns returns-2)

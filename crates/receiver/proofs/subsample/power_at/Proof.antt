@@ -2,6 +2,8 @@
 use mathlib.Core.Path.{_≡_}
 use Prim.Native.Nat.{ℕ}
 use native.Mathlib.Omega.{arith}
+use Rattle.receiver.specs.Inner.{kindOf}
+use Rattle.receiver.proofs.EitherKind.{right}
 use Rattle.receiver.proofs.Looking.{power-in}
 use borrow.Author.Needs.{needs}
 use Rattle.receiver.proofs.subsample.power_at.Statement.{statement}
@@ -9,9 +11,6 @@ use Rattle.receiver.proofs.subsample.power_at.Tie as tie
 
 symbols-at-requires : tie.Need-symbols-at-requires
 symbols-at-requires c κs = search needs
-
-slice-aggregate-postdecode-power : tie.Need-slice-aggregate-postdecode-power
-slice-aggregate-postdecode-power c = search needs
 
 postdecode-power-requires : tie.Need-postdecode-power-requires
 postdecode-power-requires c κs = search needs
@@ -25,16 +24,14 @@ enum-told c = search needs
 returns : tie.Need-returns
 returns c =
     let s = c .before .before .before .before .before .before .before in
-    let p = s .args .place in
-    let e = power-in (s .args .symbols .now) p (s .args .t3) (c .before .before .before .postdecode-power .result) (s .pre .0) (s .pre .1) (search needs) (c .before .before .before .before .before .symbols-at .ensures) (c .before .before .before .postdecode-power .ensures) in
+    let e = power-in (kindOf (s .args .kind)) (right (s .args .kind)) (s .args .symbols .now) (s .args .place) (s .args .message .now) (c .before .before .before .postdecode-power .result) (s .pre .0) (s .pre .1) (s .pre .2) (c .before .before .before .before .symbols-at .ensures) (c .before .before .before .postdecode-power .ensures) in
     let f = c .before .power .given .1 in
     cc
 
 returns-2 : tie.Need-returns-2
 returns-2 c =
     let s = c .before .before .before .before .before .before in
-    let p = s .args .place in
-    let e = power-in (s .args .symbols .now) p (s .args .t3) (c .before .before .postdecode-power .result) (s .pre .0) (s .pre .1) (search needs) (c .before .before .before .before .symbols-at .ensures) (c .before .before .postdecode-power .ensures) in
+    let e = power-in (kindOf (s .args .kind)) (right (s .args .kind)) (s .args .symbols .now) (s .args .place) (s .args .message .now) (c .before .before .postdecode-power .result) (s .pre .0) (s .pre .1) (s .pre .2) (c .before .before .before .symbols-at .ensures) (c .before .before .postdecode-power .ensures) in
     let f = c .enum-told .given .1 in
     let z : _≡_ {A = ℕ} 0 1 = cc in
     absurd (omega arith)
@@ -44,7 +41,6 @@ power-at-spec =
     tie.close
     (tie.spec
     symbols-at-requires
-    slice-aggregate-postdecode-power
     postdecode-power-requires
     enum-known-power
     enum-told

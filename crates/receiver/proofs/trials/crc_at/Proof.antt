@@ -20,12 +20,12 @@ enum-told c = search needs
 returns : tie.Need-returns
 returns c =
     let s = c .before .before .before .before .before in
-    same-values (ap crcTold (sym (c .before .crc .given .1)) ∙ c .before .before .before .compute-crc .ensures ∙ crc-done _ _ (s .pre .0) (s .pre .1))
+    same-values (ap crcTold (sym (c .before .crc .given .1)) ∙ c .before .before .before .compute-crc .ensures ∙ crc-done 14 _ _ (s .pre .0) (s .pre .1))
 
 returns-2 : tie.Need-returns-2
 returns-2 c =
     let s = c .before .before .before .before in
-    absurd (not-done (ap crcTold (sym (c .enum-told .given .1)) ∙ c .before .before .compute-crc .ensures ∙ crc-done _ _ (s .pre .0) (s .pre .1)))
+    absurd (not-done (ap crcTold (sym (c .enum-told .given .1)) ∙ c .before .before .compute-crc .ensures ∙ crc-done 14 _ _ (s .pre .0) (s .pre .1)))
 
 pub crc-at-spec : {M : Type 1} → statement M
 crc-at-spec = tie.close (tie.spec compute-crc-requires enum-known-crc enum-told returns returns-2)

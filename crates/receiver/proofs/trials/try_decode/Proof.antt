@@ -4,8 +4,9 @@ use mathlib.Core.Path.{_∙_, ap}
 use Rattle.lists.specs.Told.{done}
 use Rattle.lists.proofs.Telling.{told-refused, told-done}
 use Rattle.annex10.specs.Any.{clearingAny}
+use Rattle.search.specs.Kinds.{long}
 use Rattle.receiver.specs.Tries.{triedAt}
-use Rattle.receiver.proofs.Answering.{try-opened}
+use Rattle.receiver.proofs.Answering.{try-opened, streams-long, known-long}
 use Rattle.receiver.proofs.Turns.{any-finds}
 use borrow.Author.Needs.{needs}
 use Rattle.receiver.proofs.trials.try_decode.Statement.{statement}
@@ -35,12 +36,12 @@ try-six-requires c κs =
     let t = try-opened _ _ _ _ (c .before .before .before .before .before .try-number .ensures) (c .before .before .before .before .if1 .left) in
     let e = c .before .before .before .crc-at .ensures in
     let f = c .before .before .crc-at2 .ensures in (
-      record { first = t .size; second = t .other; low = t .low },
-      record { first = any-finds _ _ (c .before .bit-errors .ensures ∙ ap (clearingAny 14) e); second = any-finds _ _ (c .bit-errors2 .ensures ∙ ap (clearingAny 14) f); differ = rw (e, f) },
+      streams-long (t .size) (t .other) (t .low),
+      known-long (any-finds _ _ (c .before .bit-errors .ensures ∙ ap (clearingAny 14) e)) (any-finds _ _ (c .bit-errors2 .ensures ∙ ap (clearingAny 14) f)) (rw (e, f)),
     )
 
 returns-2 : tie.Need-returns-2
-unfolding triedAt
+unfolding triedAt long
 returns-2 c = ap done (c .try-six .ensures) ∙ told-done _ (c .before .before .before .before .before .before .try-number .ensures) (c .before .before .before .before .before .if1 .left)
 
 pub try-decode-spec : {M : Type 1} → statement M

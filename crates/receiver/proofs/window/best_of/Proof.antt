@@ -1,5 +1,6 @@
 -- `receiver::window::best_of` meets its contract: the window is scanned, and the search is made in stages. Assumes nothing.
 use mathlib.Core.Path.{refl}
+use Rattle.search.specs.Kinds.{long}
 use Rattle.receiver.proofs.Finding.{scan-done}
 use borrow.Author.Needs.{needs}
 use Rattle.receiver.proofs.window.best_of.Statement.{statement}
@@ -20,32 +21,34 @@ slice-aggregate-scan-4 c = search needs
 scan-requires : tie.Need-scan-requires
 scan-requires c κs = search needs
 
-slice-aggregate-in-stages : tie.Need-slice-aggregate-in-stages
-slice-aggregate-in-stages c = search needs
+slice-aggregate-best-long : tie.Need-slice-aggregate-best-long
+slice-aggregate-best-long c = search needs
 
-slice-aggregate-in-stages-2 : tie.Need-slice-aggregate-in-stages-2
-slice-aggregate-in-stages-2 c = search needs
+slice-aggregate-best-long-2 : tie.Need-slice-aggregate-best-long-2
+slice-aggregate-best-long-2 c = search needs
 
-slice-aggregate-in-stages-3 : tie.Need-slice-aggregate-in-stages-3
-slice-aggregate-in-stages-3 c = search needs
+slice-aggregate-best-long-3 : tie.Need-slice-aggregate-best-long-3
+slice-aggregate-best-long-3 c = search needs
 
-slice-aggregate-in-stages-4 : tie.Need-slice-aggregate-in-stages-4
-slice-aggregate-in-stages-4 c = search needs
+slice-aggregate-best-long-4 : tie.Need-slice-aggregate-best-long-4
+slice-aggregate-best-long-4 c = search needs
 
-in-stages-requires : tie.Need-in-stages-requires
-in-stages-requires c κs =
+best-long-requires : tie.Need-best-long-requires
+unfolding long
+best-long-requires c κs =
     let s = c .before .before .before .before .before .before .before .before .before .before .before .before .before .before .before .before .before .before .before in
-    let w = scan-done _ _ _ _ _ _ (s .pre .0) (s .pre .2) refl refl refl refl (c .before .before .before .before .before .before .before .before .before .before .before .scan .ensures) in
+    let w = scan-done long _ _ _ _ _ _ (s .pre .0) (s .pre .2) refl refl refl refl (c .before .before .before .before .before .before .before .before .before .before .before .scan .ensures) in
     (w .0, s .pre .1, w .1)
 
 same-length : tie.Need-same-length
 same-length c = search needs
 
 returns : tie.Need-returns
+unfolding long
 returns c =
     let s = c .before .before .before .before .before .before .before .before .before .before .before .before .before .before .before .before .before .before .before .before in
-    let w = scan-done _ _ _ _ _ _ (s .pre .0) (s .pre .2) refl refl refl refl (c .before .before .before .before .before .before .before .before .before .before .before .before .scan .ensures) in
-    (c .in-stages .ensures, w .1)
+    let w = scan-done long _ _ _ _ _ _ (s .pre .0) (s .pre .2) refl refl refl refl (c .before .before .before .before .before .before .before .before .before .before .before .before .scan .ensures) in
+    (c .best-long .ensures, w .1)
 
 pub best-of-spec : {M : Type 1} → statement M
 best-of-spec =
@@ -56,10 +59,10 @@ best-of-spec =
     slice-aggregate-scan-3
     slice-aggregate-scan-4
     scan-requires
-    slice-aggregate-in-stages
-    slice-aggregate-in-stages-2
-    slice-aggregate-in-stages-3
-    slice-aggregate-in-stages-4
-    in-stages-requires
+    slice-aggregate-best-long
+    slice-aggregate-best-long-2
+    slice-aggregate-best-long-3
+    slice-aggregate-best-long-4
+    best-long-requires
     same-length
     returns)

@@ -11,7 +11,7 @@ use Rattle.repairs.proofs.codes.exact.Statement.{statement}
 use Rattle.repairs.proofs.codes.exact.Tie as tie
 
 abbrev Inv-loop : tie.InvT-loop
-Inv-loop crcs codes₀ i₀ i-end codes i = (i ≤ length codes₀) × Done 0 (λ (k : ℕ). codeUpTo 0 (getD crcs k 0)) (length codes₀) codes i
+Inv-loop crcs codes₀ i₀ i-end codes i = (i ≤ length codes₀) × Done 0 (λ (k : ℕ). codeUpTo 14 0 (getD crcs k 0)) (length codes₀) codes i
 
 abbrev μ-loop : tie.MeasureT-loop
 μ-loop crcs codes₀ i₀ i-end codes i = length codes₀ - i
@@ -51,7 +51,7 @@ unfolding codesUpTo
 returns c =
     let a = c .before .before .before .before in
     done-all _ _ _ _ _ (c .loop-test .left) (c .before .loop .inv .1)
-    ∙ ap (λ (n : ℕ). tabulate n (λ (k : ℕ). codeUpTo 0 (getD (now (a .args .crcs)) k 0))) (a .pre)
+    ∙ ap (λ (n : ℕ). tabulate n (λ (k : ℕ). codeUpTo 14 0 (getD (now (a .args .crcs)) k 0))) (a .pre)
 
 pub exact-spec : {M : Type 1} → statement M
 exact-spec =

@@ -14,7 +14,7 @@ use Rattle.repairs.proofs.codes.up_to_in.Tie as tie
 
 abbrev Inv-loop : tie.InvT-loop
 Inv-loop level table crcs codes₀ last₀ code₀ i₀ i-end codes last code i =
-    (i ≤ length codes₀) × Done 0 (λ (k : ℕ). codeUpTo level (getD crcs k 0)) (length codes₀) codes i × (code ≡ codeUpTo level last)
+    (i ≤ length codes₀) × Done 0 (λ (k : ℕ). codeUpTo 14 level (getD crcs k 0)) (length codes₀) codes i × (code ≡ codeUpTo 14 level last)
 
 abbrev μ-loop : tie.MeasureT-loop
 μ-loop level table crcs codes₀ last₀ code₀ i₀ i-end codes last code i = length codes₀ - i
@@ -58,7 +58,7 @@ unfolding codesUpTo
 returns c =
     let a = c .before .before .before .before .before in
     done-all _ _ _ _ _ (c .loop-test .left) (c .before .loop .inv .1)
-    ∙ ap (λ (n : ℕ). tabulate n (λ (k : ℕ). codeUpTo (a .args .level) (getD (now (a .args .crcs)) k 0))) (a .pre .3)
+    ∙ ap (λ (n : ℕ). tabulate n (λ (k : ℕ). codeUpTo 14 (a .args .level) (getD (now (a .args .crcs)) k 0))) (a .pre .3)
 
 pub up-to-in-spec : {M : Type 1} → statement M
 up-to-in-spec =

@@ -1,7 +1,6 @@
 -- `repairs::rows::bit_errors_from_crc24s` meets its contract. Assumes nothing.
 use borrow.Author.Needs.{needs}
 use borrow.Author.Tests.{eq-eqb, ne-eqb, lt-leb}
-use mathlib.Core.Path.{refl}
 use native.Mathlib.Omega.{arith}
 use denote.Ref.{now}
 use Rattle.repairs.specs.Codes.{codesUpToInto}
@@ -17,31 +16,19 @@ returns-2 : tie.Need-returns-2
 unfolding codesUpToInto
 returns-2 c = simp (eq-eqb _ _ (c .before .if1 .left), lt-leb _ _ (c .if2 .taken))
 
-exact-requires : tie.Need-exact-requires
-exact-requires c κs = search needs
+find-codes-requires : tie.Need-find-codes-requires
+find-codes-requires c κs = search needs
 
 same-length : tie.Need-same-length
 same-length c = search needs
 
 returns-3 : tie.Need-returns-3
 returns-3 c =
-    let a = c .before .before .before .before .before .before .before .before .before .args in
-    into-done (a .level) 0 (now (a .crcs)) (now (a .codes)) _ (c .before .before .before .before .before .before .if1 .left) (c .before .before .before .before .if3 .taken) (omega arith)
-    (c .before .before .exact .ensures)
-
-up-to-requires : tie.Need-up-to-requires
-up-to-requires c κs = search needs
-
-same-length-2 : tie.Need-same-length-2
-same-length-2 c = search needs
-
-returns-4 : tie.Need-returns-4
-returns-4 c =
-    let a = c .before .before .before .before .before .before .before .before .before .args in
-    into-done (a .level) (a .level) (now (a .crcs)) (now (a .codes)) _ (c .before .before .before .before .before .before .if1 .left) refl
-    (c .before .before .before .before .before .if2 .left) (c .before .before .up-to .ensures)
+    let a = c .before .before .before .before .before .before .before .before .args in
+    let l = c .before .before .before .before .if2 .left in
+    into-done 14 2 (a .level) (a .level) (now (a .crcs)) (now (a .codes)) _ (c .before .before .before .before .before .if1 .left) l (omega arith)
+    (c .before .before .find-codes .ensures)
 
 pub bit-errors-from-crc24s-spec : {M : Type 1} → statement M
 bit-errors-from-crc24s-spec =
-    tie.close
-    (tie.spec returns returns-2 exact-requires same-length returns-3 up-to-requires same-length-2 returns-4)
+    tie.close (tie.spec returns returns-2 find-codes-requires same-length returns-3)

@@ -1,4 +1,5 @@
 -- `scan::crcs::roll` meets its contract. Assumes nothing.
+use native.Mathlib.Omega.{arith}
 use borrow.Author.Needs.{needs}
 use Rattle.scan.proofs.Rolled.{step-is}
 use Rattle.scan.proofs.crcs.roll.Statement.{statement}
@@ -15,8 +16,8 @@ mask-requires-3 c κs = search needs
 
 returns : tie.Need-returns
 returns c =
-    let p = c .before .before .before .pre in
-    step-is _ _ _ (p .0) (p .1) (p .2) (c .before .before .mask .ensures) (c .before .mask2 .ensures) (c .mask3 .ensures)
+    let s = c .before .before .before in
+    step-is _ _ _ _ (omega arith) (s .pre .0) (s .pre .1) (s .pre .2) (c .before .before .mask .ensures) (c .before .mask2 .ensures) (c .mask3 .ensures)
 
 pub roll-spec : {M : Type 1} → statement M
 roll-spec = tie.close (tie.spec mask-requires mask-requires-2 mask-requires-3 returns)

@@ -6,7 +6,7 @@ use Rattle.scan.proofs.first.first_row.Tie as tie
 
 first-in-requires : tie.Need-first-in-requires
 unfolding power-rule
-first-in-requires c κs = (power-law _ tt, c .before .before .before .before .pre .0, c .before .before .before .before .pre .1)
+first-in-requires c κs = (c .before .before .before .before .pre .0, power-law _ tt, c .before .before .before .before .pre .1, c .before .before .before .before .pre .2)
 
 same-length : tie.Need-same-length
 same-length c = search needs

@@ -1,65 +1,25 @@
--- `scan::list::list_exact` meets its contract. Each return is the definition's case for the tests that led there. Assumes nothing.
-use borrow.Author.Tests.{eq-eqb, ne-eqb}
+-- `scan::list::list_exact` meets its contract. Assumes nothing.
+use native.Mathlib.Omega.{arith}
+use mathlib.Core.Path.{refl}
 use borrow.Author.Needs.{needs}
-use Rattle.scan.specs.Exact.{exactInto}
-use Rattle.scan.proofs.Listing.{listed-is, exact-done}
 use Rattle.scan.proofs.list.list_exact.Statement.{statement}
 use Rattle.scan.proofs.list.list_exact.Tie as tie
 
-returns : tie.Need-returns
-unfolding exactInto
-returns c = simp (ne-eqb _ _ (c .if1 .taken))
+slice-aggregate-list-of : tie.Need-slice-aggregate-list-of
+slice-aggregate-list-of c = search needs
 
-returns-2 : tie.Need-returns-2
-unfolding exactInto
-returns-2 c = simp (eq-eqb _ _ (c .before .if1 .left), ne-eqb _ _ (c .if2 .taken))
+slice-aggregate-list-of-2 : tie.Need-slice-aggregate-list-of-2
+slice-aggregate-list-of-2 c = search needs
 
-returns-3 : tie.Need-returns-3
-unfolding exactInto
-returns-3 c = simp (eq-eqb _ _ (c .before .before .if1 .left), eq-eqb _ _ (c .before .if2 .left), ne-eqb _ _ (c .if3 .taken))
-
-returns-4 : tie.Need-returns-4
-unfolding exactInto
-returns-4 c = simp (eq-eqb _ _ (c .before .before .before .if1 .left), eq-eqb _ _ (c .before .before .if2 .left), eq-eqb _ _ (c .before .if3 .left), ne-eqb _ _ (c .if4 .taken))
-
-returns-5 : tie.Need-returns-5
-unfolding exactInto
-returns-5 c = simp (eq-eqb _ _ (c .before .before .before .before .if1 .left), eq-eqb _ _ (c .before .before .before .if2 .left), eq-eqb _ _ (c .before .before .if3 .left), eq-eqb _ _ (c .before .if4 .left), ne-eqb _ _ (c .if5 .taken))
-
-slice-aggregate-gather-exact : tie.Need-slice-aggregate-gather-exact
-slice-aggregate-gather-exact c = search needs
-
-gather-exact-requires : tie.Need-gather-exact-requires
-gather-exact-requires c κs = search needs
-
-slice-aggregate-copy : tie.Need-slice-aggregate-copy
-slice-aggregate-copy c = search needs
-
-copy-requires : tie.Need-copy-requires
-copy-requires c κs = search needs
+list-of-requires : tie.Need-list-of-requires
+list-of-requires c κs = (omega arith, omega arith, refl, refl)
 
 same-length : tie.Need-same-length
 same-length c = search needs
 
-returns-6 : tie.Need-returns-6
-returns-6 c =
-    let g = c .before .before .before .before .before .before .gather-exact .ensures in
-    let else5 = c .before .before .before .before .before .before .before .before in
-    rw (exact-done _ _ _ _ _ (else5 .before .before .before .before .if1 .left) (else5 .before .before .before .if2 .left) (else5 .before .before .if3 .left) (else5 .before .if4 .left) (else5 .if5 .left))
-    (listed-is _ _ (g .1) (g .2) (c .before .before .copy .ensures))
+returns : tie.Need-returns
+returns c = search needs
 
 pub list-exact-spec : {M : Type 1} → statement M
 list-exact-spec =
-    tie.close
-    (tie.spec
-    returns
-    returns-2
-    returns-3
-    returns-4
-    returns-5
-    slice-aggregate-gather-exact
-    gather-exact-requires
-    slice-aggregate-copy
-    copy-requires
-    same-length
-    returns-6)
+    tie.close (tie.spec slice-aggregate-list-of slice-aggregate-list-of-2 list-of-requires same-length returns)

@@ -9,10 +9,10 @@ use Rattle.scan.proofs.marks.any.Statement.{statement}
 use Rattle.scan.proofs.marks.any.Tie as tie
 
 abbrev Inv-loop : tie.InvT-loop
-Inv-loop marks r₀ i₀ r i = (i ≤ 248) × (r ≡ anyOf marks i)
+Inv-loop many marks r₀ i₀ r i = (i ≤ many) × (r ≡ anyOf marks i)
 
 abbrev μ-loop : tie.MeasureT-loop
-μ-loop marks r₀ i₀ r i = 248 - i
+μ-loop many marks r₀ i₀ r i = many - i
 
 loop-holds : tie.Need-loop-holds Inv-loop μ-loop
 unfolding anyOf
@@ -33,7 +33,7 @@ loop-again c = (omega arith, any-more _ _ (c .before .before .loop .inv .1))
 returns : tie.Need-returns Inv-loop μ-loop
 returns c =
     let l = c .before .loop in
-    let e : l .i ≡ 248 = omega (arith, l .inv .0, c .loop-test .left) in
+    let e : l .i ≡ c .before .before .args .many = omega (arith, l .inv .0, c .loop-test .left) in
     l .inv .1 ∙ ap (anyOf _) e
 
 pub any-spec : {M : Type 1} → statement M

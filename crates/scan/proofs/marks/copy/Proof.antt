@@ -19,8 +19,14 @@ abbrev μ-loop : tie.MeasureT-loop
 loop-holds : tie.Need-loop-holds Inv-loop μ-loop
 loop-holds c = (omega arith, refl)
 
+mul-list : tie.Need-mul-list Inv-loop μ-loop
+mul-list c = search needs
+
 shared-slice-read-list : tie.Need-shared-slice-read-list Inv-loop μ-loop
 shared-slice-read-list c = omega (arith, c .before .loop-test .taken, c .before .before .before .pre .0)
+
+mul-list-2 : tie.Need-mul-list-2 Inv-loop μ-loop
+mul-list-2 c = search needs
 
 slice-write-list : tie.Need-slice-write-list Inv-loop μ-loop
 slice-write-list c =
@@ -62,7 +68,9 @@ copy-spec =
     Inv-loop
     μ-loop
     loop-holds
+    mul-list
     shared-slice-read-list
+    mul-list-2
     slice-write-list
     add-i
     loop-less

@@ -13,20 +13,20 @@ use Rattle.scan.proofs.marks.gather.Statement.{statement}
 use Rattle.scan.proofs.marks.gather.Tie as tie
 
 abbrev Inv-loop2 : tie.InvT-loop2
-Inv-loop2 marks places₀ count₀ o k₀ places count k = (k ≤ 8) × (count ≤ 8 * o + k) × (length places ≡ 248) × (take count places ≡ kept (marked marks) (8 * o + k))
+Inv-loop2 m marks places₀ count₀ o k₀ places count k = (k ≤ 8) × (count ≤ 8 * o + k) × (length places ≡ 8 * m) × (take count places ≡ kept (marked marks) (8 * o + k))
 
 abbrev μ-loop2 : tie.MeasureT-loop2
-μ-loop2 marks places₀ count₀ o k₀ places count k = 8 - k
+μ-loop2 m marks places₀ count₀ o k₀ places count k = 8 - k
 
 abbrev Inv-loop : tie.InvT-loop
-Inv-loop marks places₀ count₀ o₀ places count o = (o ≤ 31) × (count ≤ 8 * o) × (length places ≡ 248) × (take count places ≡ kept (marked marks) (8 * o))
+Inv-loop m marks places₀ count₀ o₀ places count o = (o ≤ m) × (count ≤ 8 * o) × (length places ≡ 8 * m) × (take count places ≡ kept (marked marks) (8 * o))
 
 abbrev μ-loop : tie.MeasureT-loop
-μ-loop marks places₀ count₀ o₀ places count o = 31 - o
+μ-loop m marks places₀ count₀ o₀ places count o = m - o
 
 loop-holds : tie.Need-loop-holds Inv-loop2 μ-loop2 Inv-loop μ-loop
 unfolding kept
-loop-holds c = (omega arith, omega arith, c .pre .1, refl)
+loop-holds c = (omega arith, omega arith, c .pre .2, refl)
 
 loop2-holds : tie.Need-loop2-holds Inv-loop2 μ-loop2 Inv-loop μ-loop
 loop2-holds c =
@@ -42,6 +42,9 @@ add-places c = search needs
 
 cast-places : tie.Need-cast-places Inv-loop2 μ-loop2 Inv-loop μ-loop
 cast-places c = search needs
+
+mul-places-2 : tie.Need-mul-places-2 Inv-loop2 μ-loop2 Inv-loop μ-loop
+mul-places-2 c = search needs
 
 slice-write-places : tie.Need-slice-write-places Inv-loop2 μ-loop2 Inv-loop μ-loop
 slice-write-places c = omega (arith, c .before .loop2 .inv .1, c .before .loop2 .inv .2, c .loop2-test .taken, c .before .before .loop-test .taken)
@@ -65,13 +68,13 @@ cast-count : tie.Need-cast-count Inv-loop2 μ-loop2 Inv-loop μ-loop
 cast-count c =
     let o = c .before .before .before .before .loop .o in
     let k = c .before .before .loop2 .k in
-    omega (arith, c .before .before .before .before .before .pre .0 .each (8 * o + 4 * (k % 2) + k / 2))
+    omega (arith, c .before .before .before .before .before .pre .1 .each (8 * o + 4 * (k % 2) + k / 2))
 
 add-count-3 : tie.Need-add-count-3 Inv-loop2 μ-loop2 Inv-loop μ-loop
 add-count-3 c =
     let o = c .before .before .before .before .loop .o in
     let l = c .before .before .loop2 in
-    omega (arith, c .before .before .before .before .before .pre .0 .each (8 * o + 4 * (l .k % 2) + l .k / 2), l .inv .1, c .before .loop2-test .taken, c .before .before .before .loop-test .taken)
+    omega (arith, c .before .before .before .before .before .pre .1 .each (8 * o + 4 * (l .k % 2) + l .k / 2), l .inv .1, c .before .loop2-test .taken, c .before .before .before .loop-test .taken)
 
 add-k : tie.Need-add-k Inv-loop2 μ-loop2 Inv-loop μ-loop
 add-k c = search needs
@@ -86,8 +89,8 @@ loop2-again c =
     let o = c .before .before .before .before .loop .o in
     let t = c .before .loop2-test .taken in
     let u = c .before .before .before .loop-test .taken in
-    let w = c .before .before .before .before .before .pre .0 in
-    let e = mark-is (now (a .marks)) w o (l .k) t in
+    let w = c .before .before .before .before .before .pre .1 in
+    let e = mark-is (8 * a .m) (now (a .marks)) w o (l .k) t in
     let n : 8 * o + l .k + 1 ≡ 8 * o + (l .k + 1) = omega arith in (
       omega arith,
       omega (arith, w .each (8 * o + 4 * (l .k % 2) + l .k / 2), l .inv .1),
@@ -109,12 +112,12 @@ loop-again c =
     (omega (arith, c .before .before .loop-test .taken), omega (arith, l .inv .1, l .inv .0), l .inv .2, l .inv .3 ∙ ap (kept _) n)
 
 same-length : tie.Need-same-length Inv-loop2 μ-loop2 Inv-loop μ-loop
-same-length c = c .before .loop .inv .2 ∙ sym (c .before .before .pre .1)
+same-length c = c .before .loop .inv .2 ∙ sym (c .before .before .pre .2)
 
 returns : tie.Need-returns Inv-loop2 μ-loop2 Inv-loop μ-loop
 returns c =
     let l = c .before .loop in
-    let n : 8 * l .o ≡ 248 = omega (arith, l .inv .0, c .loop-test .left) in
+    let n : 8 * l .o ≡ 8 * c .before .before .args .m = omega (arith, l .inv .0, c .loop-test .left) in
     let e = l .inv .3 ∙ ap (kept _) n in
     (omega (arith, l .inv .1, l .inv .0), kept-length (l .places) _ (l .count) (omega (arith, l .inv .0, l .inv .1, l .inv .2)) e, e)
 
@@ -131,6 +134,7 @@ gather-spec =
     mul-places
     add-places
     cast-places
+    mul-places-2
     slice-write-places
     mul-count
     mul-count-2

@@ -10,13 +10,13 @@ use Rattle.scan.proofs.marks.mark_exact.Statement.{statement}
 use Rattle.scan.proofs.marks.mark_exact.Tie as tie
 
 abbrev Inv-loop : tie.InvT-loop
-Inv-loop coherent noncoherent crcs others marks₀ i₀ marks i = (i ≤ 248) × Done 0 (exactMark coherent noncoherent crcs others) 248 marks i
+Inv-loop lead many coherent noncoherent crcs others marks₀ i₀ marks i = (i ≤ many) × Done 0 (exactMark lead coherent noncoherent crcs others) many marks i
 
 abbrev μ-loop : tie.MeasureT-loop
-μ-loop coherent noncoherent crcs others marks₀ i₀ marks i = 248 - i
+μ-loop lead many coherent noncoherent crcs others marks₀ i₀ marks i = many - i
 
 loop-holds : tie.Need-loop-holds Inv-loop μ-loop
-loop-holds c = (omega arith, done-none _ _ _ _ (c .before .before .before .before .before .pre .4))
+loop-holds c = (omega arith, done-none _ _ _ _ (c .before .before .before .before .before .pre .6))
 
 mul-clean : tie.Need-mul-clean Inv-loop μ-loop
 mul-clean c = search needs
@@ -27,20 +27,32 @@ shared-slice-read-clean c = search needs
 add-clean : tie.Need-add-clean Inv-loop μ-loop
 add-clean c = search needs
 
+mul-clean-2 : tie.Need-mul-clean-2 Inv-loop μ-loop
+mul-clean-2 c = search needs
+
+add-clean-2 : tie.Need-add-clean-2 Inv-loop μ-loop
+add-clean-2 c = search needs
+
 shared-slice-read-clean-2 : tie.Need-shared-slice-read-clean-2 Inv-loop μ-loop
 shared-slice-read-clean-2 c = search needs
 
 clean-requires : tie.Need-clean-requires Inv-loop μ-loop
 clean-requires c κs = search needs
 
-mul-clean-2 : tie.Need-mul-clean-2 Inv-loop μ-loop
-mul-clean-2 c = search needs
+mul-clean-3 : tie.Need-mul-clean-3 Inv-loop μ-loop
+mul-clean-3 c = search needs
 
 shared-slice-read-clean-3 : tie.Need-shared-slice-read-clean-3 Inv-loop μ-loop
 shared-slice-read-clean-3 c = search needs
 
-add-clean-2 : tie.Need-add-clean-2 Inv-loop μ-loop
-add-clean-2 c = search needs
+add-clean-3 : tie.Need-add-clean-3 Inv-loop μ-loop
+add-clean-3 c = search needs
+
+mul-clean-4 : tie.Need-mul-clean-4 Inv-loop μ-loop
+mul-clean-4 c = search needs
+
+add-clean-4 : tie.Need-add-clean-4 Inv-loop μ-loop
+add-clean-4 c = search needs
 
 shared-slice-read-clean-4 : tie.Need-shared-slice-read-clean-4 Inv-loop μ-loop
 shared-slice-read-clean-4 c = search needs
@@ -61,7 +73,7 @@ loop-again : tie.Need-loop-again Inv-loop μ-loop
 loop-again c =
     let l = c .before .before .before .before .before .before .before .loop in
     let a = c .before .before .before .before .before .before .before .before .before .before .before .before .before .args in
-    (omega arith, done-more _ _ _ _ _ _ (c .before .before .before .before .before .before .loop-test .taken) (l .inv .1) (exact-bit (now (a .coherent)) (now (a .noncoherent)) (now (a .crcs)) (now (a .others)) (l .i) (c .before .before .before .clean .ensures) (c .clean2 .ensures)))
+    (omega arith, done-more _ _ _ _ _ _ (c .before .before .before .before .before .before .loop-test .taken) (l .inv .1) (exact-bit (a .lead) (now (a .coherent)) (now (a .noncoherent)) (now (a .crcs)) (now (a .others)) (l .i) (c .before .before .before .clean .ensures) (c .clean2 .ensures)))
 
 same-length : tie.Need-same-length Inv-loop μ-loop
 same-length c = search needs
@@ -80,11 +92,15 @@ mark-exact-spec =
     mul-clean
     shared-slice-read-clean
     add-clean
+    mul-clean-2
+    add-clean-2
     shared-slice-read-clean-2
     clean-requires
-    mul-clean-2
+    mul-clean-3
     shared-slice-read-clean-3
-    add-clean-2
+    add-clean-3
+    mul-clean-4
+    add-clean-4
     shared-slice-read-clean-4
     clean-requires-2
     slice-write-marks

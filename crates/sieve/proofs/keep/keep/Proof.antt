@@ -1,7 +1,6 @@
 -- `sieve::keep::keep` meets its contract. The loop: of the first m places those that are taken are stored. Assumes nothing.
 use borrow.Author.Needs.{needs}
 use mathlib.Core.Logic.{⊎-elim}
-use mathlib.Core.Path.{sym, _∙_}
 use Prim.Native.Nat.{_+_, _-_, _≤_, _<_}
 use native.Mathlib.Omega.{arith}
 use lib.ListN.{length-set}
@@ -16,13 +15,19 @@ abbrev μ-loop : tie.MeasureT-loop
 μ-loop through told count list₀ codes₀ kept₀ m₀ list codes kept m = count - m
 
 loop-holds : tie.Need-loop-holds Inv-loop μ-loop
-loop-holds c = (search needs, kept-start _ _ _ _ (c .before .before .before .before .pre .3) (c .before .before .before .before .pre .4))
+loop-holds c = (search needs, kept-start _ _ _ _)
 
 is-taken-requires : tie.Need-is-taken-requires Inv-loop μ-loop
 is-taken-requires c κs = search needs
 
+mul-list : tie.Need-mul-list Inv-loop μ-loop
+mul-list c = search needs
+
 shared-slice-read-list : tie.Need-shared-slice-read-list Inv-loop μ-loop
 shared-slice-read-list c = search needs
+
+mul-list-2 : tie.Need-mul-list-2 Inv-loop μ-loop
+mul-list-2 c = search needs
 
 slice-write-list : tie.Need-slice-write-list Inv-loop μ-loop
 slice-write-list c = omega (arith, c .before .before .before .before .loop .inv .1 .size, c .before .before .before .before .loop .inv .1 .few, c .before .before .before .before .before .before .before .before .before .pre .2, c .before .before .before .loop-test .taken)
@@ -84,21 +89,21 @@ loop-again c =
     let s = c .before .before .before .before .before .before .before .before in
     let l = c .before .before .before .loop in
     let t = c .before .is-taken in
-    let h : l .m < 248 = omega (arith, s .pre .2, c .before .before .loop-test .taken) in (
+    let h : l .m < s .args .count = c .before .before .loop-test .taken in (
       omega (arith, c .before .before .loop-test .taken),
       ⊎-elim
           (λ w. kept-as _ _ _ _ (l .m + 1) (w .4) (w .5) (w .6)
-          (kept-taken _ _ _ _ (l .m) (l .kept) (t .result) (l .list) (l .codes) (s .pre .3) (s .pre .4) h (t .ensures) (w .0 .taken) (l .inv .1)))
+          (kept-taken _ _ _ _ (l .m) (l .kept) (t .result) (l .list) (l .codes) (omega (arith, h, s .pre .3)) (omega (arith, h, s .pre .4)) (t .ensures) (w .0 .taken) (l .inv .1)))
           (λ w. kept-as _ _ _ _ (l .m + 1) (w .1) (w .2) (w .3)
           (kept-left _ _ _ _ (l .m) (l .kept) (t .result) (l .list) (l .codes) (t .ensures) (w .0 .left) (l .inv .1)))
           (c .if1 .came),
     )
 
 same-length : tie.Need-same-length Inv-loop μ-loop
-same-length c = c .before .loop .inv .1 .size ∙ sym (c .before .before .before .before .before .before .pre .3)
+same-length c = c .before .loop .inv .1 .size
 
 same-length-2 : tie.Need-same-length-2 Inv-loop μ-loop
-same-length-2 c = c .before .loop .inv .1 .sizes ∙ sym (c .before .before .before .before .before .before .pre .4)
+same-length-2 c = c .before .loop .inv .1 .sizes
 
 returns : tie.Need-returns Inv-loop μ-loop
 returns c =
@@ -113,7 +118,9 @@ keep-spec =
     μ-loop
     loop-holds
     is-taken-requires
+    mul-list
     shared-slice-read-list
+    mul-list-2
     slice-write-list
     mul-codes
     mul-codes-2

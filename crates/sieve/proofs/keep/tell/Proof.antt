@@ -1,38 +1,68 @@
 -- `sieve::keep::tell` meets its contract. Assumes nothing.
 use borrow.Author.Needs.{needs}
 use denote.Ref.{now}
-use Rattle.sieve.proofs.Picking.{part-length, told-part}
+use Rattle.sieve.proofs.Picking.{part-length, told-short, told-long}
 use Rattle.sieve.proofs.keep.tell.Statement.{statement}
 use Rattle.sieve.proofs.keep.tell.Tie as tie
 
-slice-aggregate-bit-errors-from-crc24s : tie.Need-slice-aggregate-bit-errors-from-crc24s
-slice-aggregate-bit-errors-from-crc24s c = let s = c .before .before .before in part-length (s .args .n) (now (s .args .asked)) (s .pre .1) (s .pre .3)
+slice-aggregate-bit-errors-from-crc24s-short :
+    tie.Need-slice-aggregate-bit-errors-from-crc24s-short
+slice-aggregate-bit-errors-from-crc24s-short c = let s = c .before .before .before .before in part-length (s .args .n) (now (s .args .asked)) (s .pre .1)
 
-slice-relend-prefix-bit-errors-from-crc24s : tie.Need-slice-relend-prefix-bit-errors-from-crc24s
-slice-relend-prefix-bit-errors-from-crc24s c = search needs
+slice-relend-prefix-bit-errors-from-crc24s-short :
+    tie.Need-slice-relend-prefix-bit-errors-from-crc24s-short
+slice-relend-prefix-bit-errors-from-crc24s-short c = search needs
 
-slice-aggregate-bit-errors-from-crc24s-2 : tie.Need-slice-aggregate-bit-errors-from-crc24s-2
-slice-aggregate-bit-errors-from-crc24s-2 c = let s = c .before .before .before .before in part-length (s .args .n) (now (s .args .told)) (s .pre .2) (s .pre .3)
+slice-aggregate-bit-errors-from-crc24s-short-2 :
+    tie.Need-slice-aggregate-bit-errors-from-crc24s-short-2
+slice-aggregate-bit-errors-from-crc24s-short-2 c = let s = c .before .before .before .before .before in part-length (s .args .n) (now (s .args .told)) (s .pre .2)
 
-bit-errors-from-crc24s-requires : tie.Need-bit-errors-from-crc24s-requires
-bit-errors-from-crc24s-requires c κs = search needs
+bit-errors-from-crc24s-short-requires : tie.Need-bit-errors-from-crc24s-short-requires
+bit-errors-from-crc24s-short-requires c κs = search needs
 
 same-length : tie.Need-same-length
 same-length c = search needs
 
 returns : tie.Need-returns
 returns c =
-    let s = c .before .before .before .before .before .before .before in
-    told-part (s .args .level) (s .args .n) _ (now (s .args .asked)) (now (s .args .told)) _ _ (s .pre .0) (s .pre .1) (s .pre .2) (s .pre .3)
-    (c .before .before .bit-errors-from-crc24s .ensures)
+    let s = c .before .before .before .before .before .before .before .before in
+    told-short (s .args .short) (s .args .level) (s .args .n) _ (now (s .args .asked)) (now (s .args .told)) _ _ (s .pre .0) (s .pre .1) (s .pre .2)
+    (c .before .before .before .before .before .if1 .taken) (c .before .before .bit-errors-from-crc24s-short .ensures)
+
+slice-aggregate-bit-errors-from-crc24s : tie.Need-slice-aggregate-bit-errors-from-crc24s
+slice-aggregate-bit-errors-from-crc24s c = let s = c .before .before .before .before in part-length (s .args .n) (now (s .args .asked)) (s .pre .1)
+
+slice-relend-prefix-bit-errors-from-crc24s : tie.Need-slice-relend-prefix-bit-errors-from-crc24s
+slice-relend-prefix-bit-errors-from-crc24s c = search needs
+
+slice-aggregate-bit-errors-from-crc24s-2 : tie.Need-slice-aggregate-bit-errors-from-crc24s-2
+slice-aggregate-bit-errors-from-crc24s-2 c = let s = c .before .before .before .before .before in part-length (s .args .n) (now (s .args .told)) (s .pre .2)
+
+bit-errors-from-crc24s-requires : tie.Need-bit-errors-from-crc24s-requires
+bit-errors-from-crc24s-requires c κs = search needs
+
+same-length-2 : tie.Need-same-length-2
+same-length-2 c = search needs
+
+returns-2 : tie.Need-returns-2
+returns-2 c =
+    let s = c .before .before .before .before .before .before .before .before in
+    told-long (s .args .short) (s .args .level) (s .args .n) _ (now (s .args .asked)) (now (s .args .told)) _ _ (s .pre .0) (s .pre .1) (s .pre .2)
+    (c .before .before .before .before .before .if1 .left) (c .before .before .bit-errors-from-crc24s .ensures)
 
 pub tell-spec : {M : Type 1} → statement M
 tell-spec =
     tie.close
     (tie.spec
+    slice-aggregate-bit-errors-from-crc24s-short
+    slice-relend-prefix-bit-errors-from-crc24s-short
+    slice-aggregate-bit-errors-from-crc24s-short-2
+    bit-errors-from-crc24s-short-requires
+    same-length
+    returns
     slice-aggregate-bit-errors-from-crc24s
     slice-relend-prefix-bit-errors-from-crc24s
     slice-aggregate-bit-errors-from-crc24s-2
     bit-errors-from-crc24s-requires
-    same-length
-    returns)
+    same-length-2
+    returns-2)

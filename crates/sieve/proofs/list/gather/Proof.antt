@@ -1,7 +1,7 @@
--- `sieve::list::gather` meets its contract. The loop: the numbers of the first m places are stored. Assumes nothing.
+-- `sieve::list::gather` meets its contract. The loop: the numbers of the first j places are stored. Assumes nothing.
 use borrow.Author.Needs.{needs}
 use mathlib.Core.Path.{_≡_, sym, _∙_}
-use Prim.Native.Nat.{_-_, _≤_}
+use Prim.Native.Nat.{_*_, _-_, _≤_}
 use native.Mathlib.Omega.{arith}
 use lib.ListN.{length-set}
 use Rattle.scan.proofs.Starting.{lane-lt}
@@ -11,14 +11,17 @@ use Rattle.sieve.proofs.list.gather.Statement.{statement}
 use Rattle.sieve.proofs.list.gather.Tie as tie
 
 abbrev Inv-loop : tie.InvT-loop
-Inv-loop shape displacements owners crcs others list count asked₀ m₀ asked m =
-    (m ≤ count) × Gathered shape displacements owners crcs others list asked m
+Inv-loop m shape displacements owners crcs others list count asked₀ j₀ asked j =
+    (j ≤ count) × Gathered (8 * m) shape displacements owners crcs others list asked j
 
 abbrev μ-loop : tie.MeasureT-loop
-μ-loop shape displacements owners crcs others list count asked₀ m₀ asked m = count - m
+μ-loop m shape displacements owners crcs others list count asked₀ j₀ asked j = count - j
 
 loop-holds : tie.Need-loop-holds Inv-loop μ-loop
-loop-holds c = (search needs, gathered-none _ _ _ _ _ _ _ (c .before .before .before .before .before .before .pre .6))
+loop-holds c = (search needs, gathered-none _ _ _ _ _ _ _ _ (c .before .before .before .before .before .before .pre .7))
+
+mul-lane : tie.Need-mul-lane Inv-loop μ-loop
+mul-lane c = search needs
 
 shared-slice-read-lane : tie.Need-shared-slice-read-lane Inv-loop μ-loop
 shared-slice-read-lane c = search needs
@@ -29,12 +32,12 @@ lane-requires c κs = search needs
 mul-ask : tie.Need-mul-ask Inv-loop μ-loop
 mul-ask c =
     let s = c .before .before .before .before .before .before .before .before .before .before in
-    omega (arith, c .lane .ensures, lane-lt 31 _ (s .pre .5 .each (c .before .before .before .loop .m) (c .before .before .loop-test .taken)))
+    omega (arith, c .lane .ensures, lane-lt (s .args .m) _ (s .pre .6 .each (c .before .before .before .loop .j) (c .before .before .loop-test .taken)))
 
 shared-slice-read-ask : tie.Need-shared-slice-read-ask Inv-loop μ-loop
 shared-slice-read-ask c =
     let s = c .before .before .before .before .before .before .before .before .before .before .before in
-    omega (arith, s .pre .1, c .before .lane .ensures, lane-lt 31 _ (s .pre .5 .each (c .before .before .before .before .loop .m) (c .before .before .before .loop-test .taken)))
+    omega (arith, s .pre .2, c .before .lane .ensures, lane-lt (s .args .m) _ (s .pre .6 .each (c .before .before .before .before .loop .j) (c .before .before .before .loop-test .taken)))
 
 ask-requires : tie.Need-ask-requires Inv-loop μ-loop
 ask-requires c κs = search needs
@@ -48,17 +51,17 @@ mul-asked-2 c = search needs
 slice-write-asked : tie.Need-slice-write-asked Inv-loop μ-loop
 slice-write-asked c =
     let s = c .before .before .before .before .before .before .before .before .before .before .before .before in
-    omega (arith, c .before .before .before .before .before .loop .inv .1 .size, s .pre .4, c .before .before .before .before .loop-test .taken)
+    omega (arith, c .before .before .before .before .before .loop .inv .1 .size, s .pre .5, c .before .before .before .before .loop-test .taken)
 
 mul-ask-2 : tie.Need-mul-ask-2 Inv-loop μ-loop
 mul-ask-2 c =
     let s = c .before .before .before .before .before .before .before .before .before .before .before .before in
-    omega (arith, c .before .before .lane .ensures, lane-lt 31 _ (s .pre .5 .each (c .before .before .before .before .before .loop .m) (c .before .before .before .before .loop-test .taken)))
+    omega (arith, c .before .before .lane .ensures, lane-lt (s .args .m) _ (s .pre .6 .each (c .before .before .before .before .before .loop .j) (c .before .before .before .before .loop-test .taken)))
 
 shared-slice-read-ask-2 : tie.Need-shared-slice-read-ask-2 Inv-loop μ-loop
 shared-slice-read-ask-2 c =
     let s = c .before .before .before .before .before .before .before .before .before .before .before .before .before in
-    omega (arith, s .pre .2, c .before .before .before .lane .ensures, lane-lt 31 _ (s .pre .5 .each (c .before .before .before .before .before .before .loop .m) (c .before .before .before .before .before .loop-test .taken)))
+    omega (arith, s .pre .3, c .before .before .before .lane .ensures, lane-lt (s .args .m) _ (s .pre .6 .each (c .before .before .before .before .before .before .loop .j) (c .before .before .before .before .before .loop-test .taken)))
 
 ask-requires-2 : tie.Need-ask-requires-2 Inv-loop μ-loop
 ask-requires-2 c κs = search needs
@@ -75,10 +78,10 @@ mul-asked-4 c = search needs
 slice-write-asked-2 : tie.Need-slice-write-asked-2 Inv-loop μ-loop
 slice-write-asked-2 c =
     let s = c .before .before .before .before .before .before .before .before .before .before .before .before .before .before in
-    simp length-set (omega (arith, c .before .before .before .before .before .before .before .loop .inv .1 .size, s .pre .4, c .before .before .before .before .before .before .loop-test .taken))
+    simp length-set (omega (arith, c .before .before .before .before .before .before .before .loop .inv .1 .size, s .pre .5, c .before .before .before .before .before .before .loop-test .taken))
 
-add-m : tie.Need-add-m Inv-loop μ-loop
-add-m c = search needs
+add-j : tie.Need-add-j Inv-loop μ-loop
+add-j c = search needs
 
 loop-less : tie.Need-loop-less Inv-loop μ-loop
 loop-less c = search needs
@@ -88,18 +91,18 @@ loop-again c =
     let s = c .before .before .before .before .before .before .before .before .before .before .before .before .before .before in
     let l = c .before .before .before .before .before .before .before .loop in (
       search needs,
-      gathered-more _ _ _ _ _ _ _ _ _ _ _ (l .inv .1) (omega (arith, s .pre .4, c .before .before .before .before .before .before .loop-test .taken)) (c .before .before .before .before .lane .ensures)
+      gathered-more _ _ _ _ _ _ _ _ _ _ _ _ (l .inv .1) (omega (arith, s .pre .5, c .before .before .before .before .before .before .loop-test .taken)) (c .before .before .before .before .lane .ensures)
           (c .before .before .ask .ensures) (c .ask2 .ensures),
     )
 
 same-length : tie.Need-same-length Inv-loop μ-loop
-same-length c = c .before .loop .inv .1 .size ∙ sym (c .before .before .before .before .before .before .before .before .pre .6)
+same-length c = c .before .loop .inv .1 .size ∙ sym (c .before .before .before .before .before .before .before .before .pre .7)
 
 returns : tie.Need-returns Inv-loop μ-loop
 returns c =
     let l = c .before .loop in
     let a = c .before .before .before .before .before .before .before .before .args in
-    let e : l .m ≡ a .count = omega (arith, l .inv .0, c .loop-test .left) in
+    let e : l .j ≡ a .count = omega (arith, l .inv .0, c .loop-test .left) in
     rw (← e) (l .inv .1)
 
 pub gather-spec : {M : Type 1} → statement M
@@ -109,6 +112,7 @@ gather-spec =
     Inv-loop
     μ-loop
     loop-holds
+    mul-lane
     shared-slice-read-lane
     lane-requires
     mul-ask
@@ -124,7 +128,7 @@ gather-spec =
     add-asked
     mul-asked-4
     slice-write-asked-2
-    add-m
+    add-j
     loop-less
     loop-again
     same-length

@@ -13,20 +13,20 @@ use Rattle.sieve.proofs.list.list_in.Statement.{statement}
 use Rattle.sieve.proofs.list.list_in.Tie as tie
 
 abbrev Inv-loop2 : tie.InvT-loop2
-Inv-loop2 shape displacements owners crcs others list₀ count₀ o k₀ list count k = (k ≤ 8) × (count ≤ 8 * o + k) × (length list ≡ 256) × (take count list ≡ kept (letIn shape displacements owners crcs others) (8 * o + k))
+Inv-loop2 m shape displacements owners crcs others list₀ count₀ o k₀ list count k = (k ≤ 8) × (count ≤ 8 * o + k) × (length list ≡ 8 * m) × (take count list ≡ kept (letIn shape displacements owners crcs others) (8 * o + k))
 
 abbrev μ-loop2 : tie.MeasureT-loop2
-μ-loop2 shape displacements owners crcs others list₀ count₀ o k₀ list count k = 8 - k
+μ-loop2 m shape displacements owners crcs others list₀ count₀ o k₀ list count k = 8 - k
 
 abbrev Inv-loop : tie.InvT-loop
-Inv-loop shape displacements owners crcs others list₀ count₀ o₀ list count o = (o ≤ 31) × (count ≤ 8 * o) × (length list ≡ 256) × (take count list ≡ kept (letIn shape displacements owners crcs others) (8 * o))
+Inv-loop m shape displacements owners crcs others list₀ count₀ o₀ list count o = (o ≤ m) × (count ≤ 8 * o) × (length list ≡ 8 * m) × (take count list ≡ kept (letIn shape displacements owners crcs others) (8 * o))
 
 abbrev μ-loop : tie.MeasureT-loop
-μ-loop shape displacements owners crcs others list₀ count₀ o₀ list count o = 31 - o
+μ-loop m shape displacements owners crcs others list₀ count₀ o₀ list count o = m - o
 
 loop-holds : tie.Need-loop-holds Inv-loop2 μ-loop2 Inv-loop μ-loop
 unfolding kept
-loop-holds c = (omega arith, omega arith, c .before .before .before .before .before .pre .3, refl)
+loop-holds c = (omega arith, omega arith, c .before .before .before .before .before .pre .4, refl)
 
 loop2-holds : tie.Need-loop2-holds Inv-loop2 μ-loop2 Inv-loop μ-loop
 loop2-holds c =
@@ -55,6 +55,9 @@ add-list c = search needs
 cast-list : tie.Need-cast-list Inv-loop2 μ-loop2 Inv-loop μ-loop
 cast-list c = search needs
 
+mul-list-2 : tie.Need-mul-list-2 Inv-loop2 μ-loop2 Inv-loop μ-loop
+mul-list-2 c = search needs
+
 slice-write-list : tie.Need-slice-write-list Inv-loop2 μ-loop2 Inv-loop μ-loop
 slice-write-list c = omega (arith, c .before .loop2 .inv .1, c .before .loop2 .inv .2, c .loop2-test .taken, c .before .before .loop-test .taken)
 
@@ -62,7 +65,7 @@ mul-owned : tie.Need-mul-owned Inv-loop2 μ-loop2 Inv-loop μ-loop
 mul-owned c = search needs
 
 shared-slice-read-owned : tie.Need-shared-slice-read-owned Inv-loop2 μ-loop2 Inv-loop μ-loop
-shared-slice-read-owned c = omega (arith, c .before .before .before .before .before .before .before .before .before .before .pre .1)
+shared-slice-read-owned c = omega (arith, c .before .before .before .before .before .before .before .before .before .before .pre .2)
 
 owned-requires : tie.Need-owned-requires Inv-loop2 μ-loop2 Inv-loop μ-loop
 owned-requires c κs = search needs
@@ -71,7 +74,7 @@ mul-owned-2 : tie.Need-mul-owned-2 Inv-loop2 μ-loop2 Inv-loop μ-loop
 mul-owned-2 c = search needs
 
 shared-slice-read-owned-2 : tie.Need-shared-slice-read-owned-2 Inv-loop2 μ-loop2 Inv-loop μ-loop
-shared-slice-read-owned-2 c = omega (arith, c .before .before .before .before .before .before .before .before .before .before .before .before .pre .2)
+shared-slice-read-owned-2 c = omega (arith, c .before .before .before .before .before .before .before .before .before .before .before .before .pre .3)
 
 owned-requires-2 : tie.Need-owned-requires-2 Inv-loop2 μ-loop2 Inv-loop μ-loop
 owned-requires-2 c κs = search needs
@@ -127,12 +130,12 @@ loop-again c =
     (omega (arith, c .before .before .loop-test .taken), omega (arith, k .inv .1, k .inv .0), k .inv .2, k .inv .3 ∙ ap (kept _) n)
 
 same-length : tie.Need-same-length Inv-loop2 μ-loop2 Inv-loop μ-loop
-same-length c = c .before .loop .inv .2 ∙ sym (c .before .before .before .before .before .before .before .pre .3)
+same-length c = c .before .loop .inv .2 ∙ sym (c .before .before .before .before .before .before .before .pre .4)
 
 returns : tie.Need-returns Inv-loop2 μ-loop2 Inv-loop μ-loop
 returns c =
     let l = c .before .loop in
-    let n : 8 * l .o ≡ 248 = omega (arith, l .inv .0, c .loop-test .left) in
+    let n : 8 * l .o ≡ 8 * c .before .before .before .before .before .before .before .args .m = omega (arith, l .inv .0, c .loop-test .left) in
     (omega (arith, l .inv .1, l .inv .0), l .inv .3 ∙ ap (kept _) n)
 
 pub list-in-spec : {M : Type 1} → statement M
@@ -152,6 +155,7 @@ list-in-spec =
     mul-list
     add-list
     cast-list
+    mul-list-2
     slice-write-list
     mul-owned
     shared-slice-read-owned

@@ -16,11 +16,11 @@ returns-2 : tie.Need-returns-2
 returns-2 c = distance-refused _ _ _ (c .before .before .if1 .left) (c .before .stream-number .ensures) (c .if2 .taken)
 
 differing-bits-requires : tie.Need-differing-bits-requires
-differing-bits-requires c κs = let t = opened _ _ (c .before .stream-number .ensures) (c .if2 .left) in (omega arith, omega arith, omega arith)
+differing-bits-requires c κs = let t = opened 14 _ _ (c .before .stream-number .ensures) (c .if2 .left) in (omega arith, omega arith, omega arith)
 
 returns-3 : tie.Need-returns-3
 returns-3 c =
-    let t = opened _ _ (c .before .before .stream-number .ensures) (c .before .if2 .left) in
+    let t = opened 14 _ _ (c .before .before .stream-number .ensures) (c .before .if2 .left) in
     rw (distance-done _ _ _ (c .before .before .before .if1 .left) (t .size) (t .low), c .differing-bits .ensures)
 
 pub compute-hamming-distance-spec : {M : Type 1} → statement M

@@ -1,0 +1,36 @@
+-- `receiver::kinds::samples_part` meets its contract. Assumes nothing.
+use Rattle.search.specs.Kinds.{long, short}
+use borrow.Author.Needs.{needs}
+use Rattle.receiver.proofs.kinds.samples_part.Statement.{statement}
+use Rattle.receiver.proofs.kinds.samples_part.Tie as tie
+
+enum-told : tie.Need-enum-told
+enum-told c = search needs
+
+samples-for-place-requires : tie.Need-samples-for-place-requires
+samples-for-place-requires c κs = search needs
+
+enum-told-2 : tie.Need-enum-told-2
+enum-told-2 c = search needs
+
+samples-for-place-short-requires : tie.Need-samples-for-place-short-requires
+samples-for-place-short-requires c κs = search needs
+
+returns : tie.Need-returns
+unfolding long
+returns c = rw (c .before .enum-told .given .1) (c .samples-for-place .ensures)
+
+returns-2 : tie.Need-returns-2
+unfolding short
+returns-2 c = rw (c .before .enum-told2 .given .1) (c .samples-for-place-short .ensures)
+
+pub samples-part-spec : {M : Type 1} → statement M
+samples-part-spec =
+    tie.close
+    (tie.spec
+    enum-told
+    samples-for-place-requires
+    enum-told-2
+    samples-for-place-short-requires
+    returns
+    returns-2)

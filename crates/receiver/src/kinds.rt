@@ -1,0 +1,160 @@
+// Where the two kinds of message part: each function here asks one of two others. All else is one body for both.
+use annex10::Repairs;
+use mode_s::header::Validity;
+use mode_s::message::MessageKind;
+use mode_s::message::ModeSMessage;
+use parts::samples_for_place;
+use parts::samples_for_place_short;
+use parts::symbols_for_place;
+use parts::symbols_for_place_short;
+use place::Place;
+use place::Stepped;
+use repairs::rows::bit_errors_from_crc24s;
+use repairs::rows::bit_errors_from_crc24s_short;
+use scan::list::Listed;
+use scan::list::list_exact;
+use scan::list::list_exact_short;
+use sieve::find_repairable;
+use sieve::find_repairable_short;
+use streams::header::df_is_valid_acquisition_squitter;
+use streams::header::df_is_valid_extended_squitter;
+ghost use mathlib.Core.Path.{_≡_};
+ghost use Prim.Native.Nat.{_*_, min};
+ghost use Rattle.mode_s.specs.Header.{validityTold};
+ghost use Rattle.place.specs.Step.{steppedTold, earlierOf, laterOf};
+ghost use Rattle.place.specs.All.{listed, listedAt};
+ghost use Rattle.parts.specs.Part.{symbolsFor, samplesFor};
+ghost use Rattle.streams.specs.Headers.{validityAt};
+ghost use Rattle.repairs.specs.Codes.{codesUpToInto};
+ghost use Rattle.scan.specs.Exact.{exactInto};
+ghost use Rattle.sieve.specs.Repairable.{repairableInto};
+ghost use Rattle.receiver.specs.Inner.{kindOf, leadOf};
+
+// The bytes of a message.
+pub fn bytes_of(kind: MessageKind) -> usize
+    ensures { λ r. ⌜ r ≡ kindOf kind .bytes ⌝ }
+{
+    match kind {
+        MessageKind::Long => ModeSMessage::LONG_BYTES,
+        MessageKind::Short => ModeSMessage::SHORT_BYTES,
+    }
+}
+
+// The most repairs: what the level asks for, and no more than the kind allows.
+pub fn level_of(kind: MessageKind, level: u32) -> u32
+    ensures { λ r. ⌜ r ≡ min level (kindOf kind .most) ⌝ }
+{
+    let most = match kind {
+        MessageKind::Long => 2,
+        MessageKind::Short => 1,
+    };
+    if level > most { most } else { level }
+}
+
+pub fn is_listed(kind: MessageKind, place: Place) -> bool
+    ensures { λ r. ⌜ r ≡ listed (kindOf kind .last) place ⌝ }
+{
+    match kind {
+        MessageKind::Long => place.is_listed(),
+        MessageKind::Short => place.is_listed_short(),
+    }
+}
+
+pub fn numbered(kind: MessageKind, k: usize) -> Stepped
+    ensures { λ r. ⌜ steppedTold r ≡ listedAt (kindOf kind .last) k ⌝ }
+{
+    match kind {
+        MessageKind::Long => Place::at(k),
+        MessageKind::Short => Place::at_short(k),
+    }
+}
+
+pub fn step_back(kind: MessageKind, place: Place) -> Stepped
+    ensures { λ r. ⌜ steppedTold r ≡ earlierOf (kindOf kind .bytes) place ⌝ }
+{
+    match kind {
+        MessageKind::Long => place.earlier(),
+        MessageKind::Short => place.earlier_short(),
+    }
+}
+
+pub fn step_on(kind: MessageKind, place: Place) -> Stepped
+    ensures { λ r. ⌜ steppedTold r ≡ laterOf (kindOf kind .bytes) place ⌝ }
+{
+    match kind {
+        MessageKind::Long => place.later(),
+        MessageKind::Short => place.later_short(),
+    }
+}
+
+pub fn symbols_part(kind: MessageKind, row: &[f32], place: Place) -> &[f32]
+    ensures { λ r. ⌜ now r ≡ symbolsFor (kindOf kind .bytes) (now (row .entry)) place ⌝ }
+{
+    match kind {
+        MessageKind::Long => symbols_for_place(row, place),
+        MessageKind::Short => symbols_for_place_short(row, place),
+    }
+}
+
+pub fn samples_part(kind: MessageKind, samples: &[f32], place: Place) -> &[f32]
+    ensures { λ r. ⌜ now r ≡ samplesFor (kindOf kind .bytes) (now (samples .entry)) place ⌝ }
+{
+    match kind {
+        MessageKind::Long => samples_for_place(samples, place),
+        MessageKind::Short => samples_for_place_short(samples, place),
+    }
+}
+
+// The header of the message at a bit offset, repaired.
+pub fn header_at(kind: MessageKind, stream: &[u8], bit: usize, repairs: Repairs) -> Validity
+    ensures { λ r. ⌜ validityTold r ≡ validityAt (kindOf kind .bytes) (kindOf kind .header) (now (stream .entry)) bit repairs ⌝ }
+{
+    match kind {
+        MessageKind::Long => df_is_valid_extended_squitter(stream, bit, repairs),
+        MessageKind::Short => df_is_valid_acquisition_squitter(stream, bit, repairs),
+    }
+}
+
+// The places at which a slicer has a remainder of 0.
+pub fn exact_places(
+    kind: MessageKind,
+    coherent: &[u8],
+    noncoherent: &[u8],
+    crcs: &[u32],
+    others: &[u32],
+    list: &mut [u16],
+) -> Listed
+    ensures { λ r. ⌜ (r, now (list .exit)) ≡ exactInto (leadOf kind) (8 * kindOf kind .last) (now (coherent .entry)) (now (noncoherent .entry)) (now (crcs .entry)) (now (others .entry)) (now (list .entry)) ⌝ }
+{
+    match kind {
+        MessageKind::Long => list_exact(coherent, noncoherent, crcs, others, list),
+        MessageKind::Short => list_exact_short(coherent, noncoherent, crcs, others, list),
+    }
+}
+
+// The places that repairs can clear, and what clears them.
+pub fn repairable_places(
+    kind: MessageKind,
+    level: u32,
+    crcs: &[u32],
+    others: &[u32],
+    list: &mut [u16],
+    codes: &mut [u32],
+) -> Listed
+    ensures { λ r. ⌜ (r, now (list .exit), now (codes .exit)) ≡ repairableInto (kindOf kind .bytes) (kindOf kind .most) (8 * kindOf kind .last) level (now (crcs .entry)) (now (others .entry)) (now (list .entry)) (now (codes .entry)) ⌝ }
+{
+    match kind {
+        MessageKind::Long => find_repairable(level, crcs, others, list, codes),
+        MessageKind::Short => find_repairable_short(level, crcs, others, list, codes),
+    }
+}
+
+// What clears each of some remainders, as codes.
+pub fn bit_errors(kind: MessageKind, level: u32, crcs: &[u32], codes: &mut [u32]) -> u32
+    ensures { λ r. ⌜ (r, now (codes .exit)) ≡ codesUpToInto (kindOf kind .bytes) (kindOf kind .most) level (now (crcs .entry)) (now (codes .entry)) ⌝ }
+{
+    match kind {
+        MessageKind::Long => bit_errors_from_crc24s(level, crcs, codes),
+        MessageKind::Short => bit_errors_from_crc24s_short(level, crcs, codes),
+    }
+}

@@ -1,0 +1,51 @@
+-- The answers of the short search. An array's length makes a type of its own; what is answered is said by the definitions of both kinds.
+-- Assumes nothing.
+use Rattle.search.specs.declared.Candidate.{Candidate}
+use Rattle.search.specs.declared.Survivor.{Survivor}
+use Rattle.search.specs.declared.Answer.{Answer}
+use Rattle.search.specs.declared.ShortCandidate.{ShortCandidate}
+use Rattle.search.specs.declared.ShortSurvivor.{ShortSurvivor}
+use Rattle.search.specs.declared.ShortAnswer.{ShortAnswer}
+
+-- the same fields
+abbrev pub shortCandidate : Candidate → ShortCandidate
+shortCandidate c =
+    record {
+      place = c .place;
+      trial = c .trial;
+      slicer = c .slicer;
+      repairs = c .repairs;
+      message = c .message;
+      prompt = c .prompt;
+      cn0 = c .cn0;
+    }
+
+abbrev pub shortSurvivor : Survivor → ShortSurvivor
+shortSurvivor x = record { number = x .number; candidate = shortCandidate (x .candidate) }
+
+abbrev pub shortAnswer : Answer → ShortAnswer
+shortAnswer a =
+    record {
+      number = a .number;
+      place = a .place;
+      message = a .message;
+      repairs = a .repairs;
+      slicer = a .slicer;
+      cn0 = a .cn0;
+      index = a .index;
+      fraction = a .fraction;
+    }
+
+-- and back
+abbrev pub ofShort : ShortAnswer → Answer
+ofShort a =
+    record {
+      number = a .number;
+      place = a .place;
+      message = a .message;
+      repairs = a .repairs;
+      slicer = a .slicer;
+      cn0 = a .cn0;
+      index = a .index;
+      fraction = a .fraction;
+    }

@@ -22,7 +22,7 @@ use Rattle.search.specs.declared.Settings.{Settings}
 use Rattle.search.specs.declared.Candidate.{Candidate}
 use Rattle.search.specs.declared.Tried.{Tried}
 use Rattle.search.specs.declared.Tried.the-variants.{Pass, Fail}
-use Rattle.search.specs.Kinds.{Kind}
+use Rattle.search.specs.Kinds.{Kind, placesOf}
 use Rattle.search.specs.Window.{_∈_, Window, Sized}
 use Rattle.search.specs.Trials.{reading}
 use Rattle.search.specs.Choice.{candidate, dropped, survivor, candidateAt, scan, best}
@@ -51,7 +51,7 @@ module _ (kind : Kind) (s : Settings) (w : Window) (apart : Apart (kind .bytes))
   numbered : (p : Place) (z : Slicer) (ρ : Repairs) → Held kind s w p z ρ → Numbered placeAt many p
   numbered p z ρ h = number-of placeAt many p (subst (λ (ps : List Place). p ∈ ps) (places .order) (h .0))
 
-  searched-at : (k : ℕ) → k < many → placeAt k ∈ kind .places
+  searched-at : (k : ℕ) → k < many → placeAt k ∈ placesOf kind
   searched-at k h = subst (λ (ps : List Place). placeAt k ∈ ps) (sym (places .order)) (member-of placeAt many k h)
 
   -- what place number k holds
@@ -166,12 +166,12 @@ module _ (kind : Kind) (s : Settings) (w : Window) (apart : Apart (kind .bytes))
   nothing : (best kind s w ≡ none) ↔ NoneHeld kind s w
   unfolding best
   nothing =
-      let (to, back) = scan-none (candidateAt kind s w) (kind .places) in (
+      let (to, back) = scan-none (candidateAt kind s w) (placesOf kind) in (
         λ e p z ρ h. not-some (sym (to e p (h .0)) ∙ holds-survives kind s w apart sized p z ρ (h .1)),
         λ h. back (λ p i. go h p i (candidateAt kind s w p) refl),
       )
     where
-      go : NoneHeld kind s w → (p : Place) → p ∈ kind .places → (o : Option Candidate) → candidateAt kind s w p ≡ o → o ≡ none
+      go : NoneHeld kind s w → (p : Place) → p ∈ placesOf kind → (o : Option Candidate) → candidateAt kind s w p ≡ o → o ≡ none
       go h p i none e = refl
       go h p i (some a) e = absurd (h p (a .slicer) (a .repairs) (i, survives-held kind s w apart sized p a e .0))
 
@@ -197,7 +197,7 @@ module _ (kind : Kind) (s : Settings) (w : Window) (apart : Apart (kind .bytes))
   same-whole : (l : ℕ) → whole kind (atLevel l s) w ≡ whole kind s w
   unfolding whole
   same-whole l =
-      ap (λ (f : Place → Option Candidate). scan f none (kind .places))
+      ap (λ (f : Place → Option Candidate). scan f none (placesOf kind))
       (fun-ext (λ p. same-survivor l p (reading kind 2 (w .bits Coherent p) (w .bits Noncoherent p))))
 
   higher : (a : Candidate) → best kind s w ≡ some a → (l : ℕ) → s .level ≤ l → best kind (atLevel l s) w ≡ some a

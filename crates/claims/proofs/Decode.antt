@@ -4,24 +4,23 @@ use mathlib.Core.Path.{_≡_, refl, sym, ap, _∙_, subst}
 use mathlib.Core.List.{List}
 use mathlib.Core.Logic.{_↔_, _≢_}
 use mathlib.Core.Option.{some}
-use Prim.Native.Nat.{ℕ, _≤_, _<_}
+use Prim.Native.Nat.{ℕ, _*_, _≤_, _<_}
 use native.Mathlib.Omega.{arith}
 use lib.Ieee.{Float}
 use Rattle.lists.specs.Bits.{bitAt}
-use Rattle.annex10.specs.Repair.{count, Named, Proper, repaired, Apart}
+use Rattle.annex10.specs.Repair.{count, Named, Proper, repaired}
 use Rattle.annex10.specs.declared.Repairs.{Repairs}
 use Rattle.annex10.proofs.Repairing.{changed}
-use Rattle.annex10.proofs.Unique.{apart-14}
 use Rattle.place.specs.declared.Place.{Place}
 use Rattle.place.specs.declared.Slicer.{Slicer}
 use Rattle.place.proofs.Within.{listed-gives}
 use Rattle.search.specs.declared.Settings.{Settings}
 use Rattle.search.specs.declared.Candidate.{Candidate}
 use Rattle.search.specs.declared.Answer.{Answer}
-use Rattle.search.specs.Kinds.{long}
+use Rattle.search.specs.Kinds.{Kind, placesOf, long, short}
 use Rattle.search.specs.Window.{_∈_}
 use Rattle.search.specs.Choice.{best}
-use Rattle.search.specs.Seen.{bitsAt, windowOf}
+use Rattle.search.specs.Seen.{bitsAt, windowOf, seen}
 use Rattle.search.specs.Answers.{answerOf, refusedAnswer, decodeOf}
 use Rattle.search.proofs.Scanning.{not-some}
 use Rattle.claims.specs.Bits.{slicerBit}
@@ -29,52 +28,52 @@ use Rattle.claims.specs.Fits.{Fits}
 use Rattle.claims.specs.Calls.{Accepted}
 use Rattle.claims.specs.Audited.{Returned, Zeros, Answered, atLevel, Audited}
 use Rattle.claims.proofs.Fitting.{not-silent}
-use Rattle.claims.proofs.Uses.{long-places, sized-long, long-search, long-heard}
+use Rattle.claims.proofs.Uses.{Sound, places-of, sized, search-of, heard-of, sound-long, sound-short}
 use Rattle.claims.proofs.Calls.{wrong-length, wrong-level, wrong-thresholds, wrong-index, nothing, something, ends, numbered}
 use Rattle.claims.proofs.Timing.{timed}
 use Rattle.claims.proofs.Only.{one-answer}
 
-module _ (samples : List Float) (s : Settings) (index : ℕ) where
+module _ (kind : Kind) (samples : List Float) (s : Settings) (index : ℕ) where
   -- an accepted call answers what the search finds
-  decode-found : Accepted samples s index → (c : Candidate) → best long s (windowOf 14 samples) ≡ some c
-      → decodeOf samples s index ≡ answerOf samples index c
-  decode-found a c b = elim (ends samples s index) [
+  decode-found : Accepted samples s index → (c : Candidate) → best kind s (seen kind samples) ≡ some c
+      → decodeOf kind samples s index ≡ answerOf kind samples index c
+  decode-found a c b = elim (ends kind samples s index) [
     | wrong-length l e ↦ absurd (l (a .0))
     | wrong-level l v e ↦ absurd (v (a .1))
     | wrong-thresholds l v f e ↦ absurd (f (a .2))
     | wrong-index l v f i e ↦ absurd (i (a .3))
     | nothing h n e ↦ not-some (sym n ∙ b)
-    | something h d q e ↦ let k : d ≡ c = cc in e ∙ ap (answerOf samples index) k
+    | something h d q e ↦ let k : d ≡ c = cc in e ∙ ap (answerOf kind samples index) k
   ]
 
 -- ---- the answer with number 0
 
 -- the search found c
-module _ (samples : List Float) (s : Settings) (index : ℕ) (c : Candidate) (b : best long s (windowOf 14 samples) ≡ some c) where
-  made : c .message ≡ repaired (bitsAt 14 samples (c .slicer) (c .place)) (c .repairs)
+module _ (kind : Kind) (sound : Sound kind) (samples : List Float) (s : Settings) (index : ℕ) (c : Candidate) (b : best kind s (seen kind samples) ≡ some c) where
+  made : c .message ≡ repaired (bitsAt (kind .bytes) samples (c .slicer) (c .place)) (c .repairs)
   unfolding windowOf
-  made = long-search samples s .returns c .0 b .1 .message
+  made = search-of kind sound samples s .returns c .0 b .1 .message
 
-  among : c .place ∈ long .places
-  among = long-search samples s .returns c .0 b .0 .held .0
+  among : c .place ∈ placesOf kind
+  among = search-of kind sound samples s .returns c .0 b .0 .held .0
 
-  fitting : Fits long s (windowOf 14 samples) (c .place) (c .slicer) (c .repairs)
-  fitting = long-search samples s .returns c .0 b .0 .held .1 .first .fits
+  fitting : Fits kind s (seen kind samples) (c .place) (c .slicer) (c .repairs)
+  fitting = search-of kind sound samples s .returns c .0 b .0 .held .1 .first .fits
 
   -- its bits, by the bits that were looked at and by the samples
-  differs : (j : ℕ) → j < 112 → (bitAt (c .message) j ≢ slicerBit samples (c .slicer) (c .place) j) ↔ Named j (c .repairs)
-  unfolding long windowOf
+  differs : (j : ℕ) → j < 8 * kind .bytes → (bitAt (c .message) j ≢ slicerBit samples (c .slicer) (c .place) j) ↔ Named j (c .repairs)
+  unfolding windowOf
   differs j h =
-      let bits = bitsAt 14 samples (c .slicer) (c .place) in
-      let size = sized-long samples .size (c .slicer) (c .place) in
+      let bits = bitsAt (kind .bytes) samples (c .slicer) (c .place) in
+      let size = sized kind samples .size (c .slicer) (c .place) in
       let proper = subst (λ (n : ℕ). Proper n (c .repairs)) (sym size) (fitting .positions) in
-      rw (made, ← long-heard samples .heard (c .slicer) (c .place) (long-places .each (c .place) .0 among) j (omega arith))
+      rw (made, ← heard-of kind sound samples .heard (c .slicer) (c .place) (places-of kind .each (c .place) .0 among) j (omega arith))
       (changed bits (c .repairs) proper j)
 
-  returned : Returned samples s index (answerOf samples index c)
-  unfolding answerOf windowOf long
+  returned : Returned kind samples s index (answerOf kind samples index c)
+  unfolding answerOf windowOf
   returned =
-      let q = long-search samples s in
+      let q = search-of kind sound samples s in
       let (h, f) = q .returns c .0 b in
       record {
         chosen = h;
@@ -82,43 +81,39 @@ module _ (samples : List Float) (s : Settings) (index : ℕ) (c : Candidate) (b 
         cn0 = f .cn0;
         differs = differs;
         only-repair = q .reads-first (c .place) .only (c .slicer) (c .repairs) fitting;
-        timed = timed samples index c (listed-gives 31 (c .place) (long-places .each (c .place) .0 among) .from);
+        timed = timed kind samples index c (listed-gives (kind .last) (c .place) (places-of kind .each (c .place) .0 among) .from);
       }
 
 -- ---- every answer
 
-apart-long : Apart (long .bytes)
-unfolding long
-apart-long = apart-14
+no-message : (kind : Kind) (n : ℕ) → Zeros kind (refusedAnswer kind n)
+no-message kind n = record { place = refl; message = refl; repairs = refl; slicer = refl; cn0 = refl; index = refl; fraction = refl }
 
-no-message : (n : ℕ) → Zeros (refusedAnswer n)
-no-message n = record { place = refl; message = refl; repairs = refl; slicer = refl; cn0 = refl; index = refl; fraction = refl }
-
-module _ (samples : List Float) (s : Settings) (index : ℕ) where
+module _ (kind : Kind) (sound : Sound kind) (samples : List Float) (s : Settings) (index : ℕ) where
   abbrev it : Answer
-  it = decodeOf samples s index
+  it = decodeOf kind samples s index
 
   -- what is said beside the number
   record Beside : Type 0 where
-    returned-is : it .number ≡ 0 → Returned samples s index it
-    zeros : it .number ≢ 0 → Zeros it
+    returned-is : it .number ≡ 0 → Returned kind samples s index it
+    zeros : it .number ≢ 0 → Zeros kind it
 
-  refused : (n : ℕ) → 0 < n → it ≡ refusedAnswer n → Beside
+  refused : (n : ℕ) → 0 < n → it ≡ refusedAnswer kind n → Beside
   refused n h e =
       let k : it .number ≡ n = ap (λ (a : Answer). a .number) e in
-      record { returned-is = λ z. absurd (omega arith); zeros = λ z. subst Zeros (sym e) (no-message n) }
+      record { returned-is = λ z. absurd (omega arith); zeros = λ z. subst (Zeros kind) (sym e) (no-message kind n) }
 
-  found : (c : Candidate) → best long s (windowOf 14 samples) ≡ some c → it ≡ answerOf samples index c → Beside
+  found : (c : Candidate) → best kind s (seen kind samples) ≡ some c → it ≡ answerOf kind samples index c → Beside
   unfolding answerOf
   found c b e =
       let k : it .number ≡ 0 = ap (λ (x : Answer). x .number) e in
       record {
-        returned-is = λ z. subst (Returned samples s index) (sym e) (returned samples s index c b);
+        returned-is = λ z. subst (Returned kind samples s index) (sym e) (returned kind sound samples s index c b);
         zeros = λ z. absurd (z k);
       }
 
   beside : Beside
-  beside = elim (ends samples s index) [
+  beside = elim (ends kind samples s index) [
     | wrong-length l e ↦ refused 2 (omega arith) e
     | wrong-level l v e ↦ refused 4 (omega arith) e
     | wrong-thresholds l v f e ↦ refused 5 (omega arith) e
@@ -127,36 +122,42 @@ module _ (samples : List Float) (s : Settings) (index : ℕ) where
     | something a c b e ↦ found c b e
   ]
 
-  speaks : Accepted samples s index → (p : Place) → p ∈ long .places → (z : Slicer) (ρ : Repairs) → Fits long s (windowOf 14 samples) p z ρ → count ρ ≤ 1
+  speaks : Accepted samples s index → (p : Place) → p ∈ placesOf kind → (z : Slicer) (ρ : Repairs) → Fits kind s (seen kind samples) p z ρ → count ρ ≤ 1
       → (it .number ≡ 0) × (count (it .repairs) ≤ count ρ)
   speaks a p m z ρ f o =
-      let (y, σ, h, l) = not-silent long s (windowOf 14 samples) apart-long (sized-long samples) p z ρ f o in
-      let n : it .number ≡ 0 = numbered samples s index .zero .1 (a, (p, y, σ, (m, h))) in
+      let (y, σ, h, l) = not-silent kind s (seen kind samples) (sound .apart) (sized kind samples) p z ρ f o in
+      let n : it .number ≡ 0 = numbered kind sound samples s index .zero .1 (a, (p, y, σ, (m, h))) in
       let k = beside .returned-is n .chosen .fewest p y σ (m, h) in
       (n, omega arith)
 
-  answered : Answered samples s index it
-  answered = record { numbered = numbered samples s index; returned = beside .returned-is; zeros = beside .zeros; not-silent = speaks }
+  answered : Answered kind samples s index it
+  answered = record { numbered = numbered kind sound samples s index; returned = beside .returned-is; zeros = beside .zeros; not-silent = speaks }
 
   -- what is returned at an accepted level is returned at every higher one
-  higher : (m : ℕ) → it .number ≡ 0 → s .level ≤ m → m ≤ 2 → decodeOf samples (atLevel m s) index ≡ it
-  higher m z h k = elim (ends samples s index) [
+  higher : (m : ℕ) → it .number ≡ 0 → s .level ≤ m → m ≤ 2 → decodeOf kind samples (atLevel m s) index ≡ it
+  higher m z h k = elim (ends kind samples s index) [
     | wrong-length l e ↦ absurd (not-zero 2 e (omega arith))
     | wrong-level l v e ↦ absurd (not-zero 4 e (omega arith))
     | wrong-thresholds l v f e ↦ absurd (not-zero 5 e (omega arith))
     | wrong-index l v f i e ↦ absurd (not-zero 6 e (omega arith))
     | nothing a b e ↦ absurd (not-zero 1 e (omega arith))
-    | something a c b e ↦ decode-found samples (atLevel m s) index (a .0, k, a .2, a .3) c (long-search samples s .higher c b m h) ∙ sym e
+    | something a c b e ↦ decode-found kind samples (atLevel m s) index (a .0, k, a .2, a .3) c (search-of kind sound samples s .higher c b m h) ∙ sym e
   ]
     where
-      not-zero : (n : ℕ) → it ≡ refusedAnswer n → 0 < n → ⊥
+      not-zero : (n : ℕ) → it ≡ refusedAnswer kind n → 0 < n → ⊥
       not-zero n e h = let q : it .number ≡ n = ap (λ (a : Answer). a .number) e in omega arith
 
--- THE CLAIMS: where the contract `answer ≡ decodeOf samples s index` holds, all of them do
-pub audited : Audited decodeOf
-audited =
+-- THE CLAIMS: where the contract `answer ≡ decodeOf kind samples s index` holds, all of them do
+audited-of : (kind : Kind) → Sound kind → Audited kind (decodeOf kind)
+audited-of kind sound =
     record {
-      answered = answered;
-      higher = λ samples s index m z h k. higher samples s index m z (omega arith) k;
-      only = λ samples s index b h. one-answer samples s index b (decodeOf samples s index) h (answered samples s index);
+      answered = answered kind sound;
+      higher = λ samples s index m z h k. higher kind sound samples s index m z (omega arith) k;
+      only = λ samples s index b h. one-answer kind sound samples s index b (decodeOf kind samples s index) h (answered kind sound samples s index);
     }
+
+pub audited : Audited long (decodeOf long)
+audited = audited-of long sound-long
+
+pub audited-short : Audited short (decodeOf short)
+audited-short = audited-of short sound-short

@@ -14,18 +14,19 @@ use Rattle.timing.specs.Exact.{LessBy}
 use Rattle.timing.proofs.Valued.{less-same}
 use Rattle.search.specs.declared.Settings.{Settings}
 use Rattle.search.specs.declared.Answer.{Answer}
+use Rattle.search.specs.Kinds.{Kind}
 use Rattle.search.specs.Seen.{windowOf}
 use Rattle.claims.specs.Calls.{Numbered}
 use Rattle.claims.specs.Timing.{fractionFor, movesFor, WellTimed}
 use Rattle.claims.specs.Audited.{Returned, Zeros, Answered, Same}
-use Rattle.claims.proofs.Uses.{long-search}
+use Rattle.claims.proofs.Uses.{Sound, search-of}
 
 zero-is : eq zeroF zeroF ≡ true
 unfolding eq ofBits
 zero-is = refl
 
-module _ (samples : List Float) (s : Settings) (index : ℕ) where
-  one-number : (n m : ℕ) → Numbered samples s index n → Numbered samples s index m → n ≡ m
+module _ (kind : Kind) (sound : Sound kind) (samples : List Float) (s : Settings) (index : ℕ) where
+  one-number : (n m : ℕ) → Numbered kind samples s index n → Numbered kind samples s index m → n ≡ m
   one-number zero m p q = sym (q .zero .1 (p .zero .0 refl))
   one-number (suc zero) m p q = sym (q .one .1 (p .one .0 refl))
   one-number (suc (suc zero)) m p q = sym (q .two .1 (p .two .0 refl))
@@ -37,25 +38,25 @@ module _ (samples : List Float) (s : Settings) (index : ℕ) where
 
   module _ (a b : Answer) where
     -- the fraction before any sample moves is the same, and so is what the moves leave of it
-    one-fraction : a .place ≡ b .place → a .message ≡ b .message → WellTimed samples index a → WellTimed samples index b
+    one-fraction : a .place ≡ b .place → a .message ≡ b .message → WellTimed kind samples index a → WellTimed kind samples index b
         → (eq (a .fraction) (b .fraction) ≡ true) ⊎ ((isNan (a .fraction) ≡ true) × (isNan (b .fraction) ≡ true))
-    one-fraction p m x y = go (isNan (fractionFor samples a)) refl
+    one-fraction p m x y = go (isNan (fractionFor kind samples a)) refl
       where
-        same : fractionFor samples b ≡ fractionFor samples a
+        same : fractionFor kind samples b ≡ fractionFor kind samples a
         same = rw (p, m)
 
-        go : (n : Bool) → isNan (fractionFor samples a) ≡ n
+        go : (n : Bool) → isNan (fractionFor kind samples a) ≡ n
             → (eq (a .fraction) (b .fraction) ≡ true) ⊎ ((isNan (a .fraction) ≡ true) × (isNan (b .fraction) ≡ true))
         go true e = inr (x .nan-stays e, y .nan-stays (ap isNan same ∙ e))
         go false e =
-            let l : LessBy (movesFor (fractionFor samples a)) (fractionFor samples a) (b .fraction) =
+            let l : LessBy (movesFor (fractionFor kind samples a)) (fractionFor kind samples a) (b .fraction) =
             subst (λ (f : Float). LessBy (movesFor f) f (b .fraction)) same (y .lost (ap isNan same ∙ e)) in
-            inl (less-same (movesFor (fractionFor samples a)) (fractionFor samples a) (a .fraction) (b .fraction) (x .lost e) l)
+            inl (less-same (movesFor (fractionFor kind samples a)) (fractionFor kind samples a) (a .fraction) (b .fraction) (x .lost e) l)
 
-    one-message : a .number ≡ b .number → Returned samples s index a → Returned samples s index b → Same a b
+    one-message : a .number ≡ b .number → Returned kind samples s index a → Returned kind samples s index b → Same a b
     unfolding windowOf
     one-message n x y =
-        let (p, z, r) = long-search samples s .one-chosen (a .place) (b .place) (a .slicer) (b .slicer) (a .repairs) (b .repairs) (x .chosen) (y .chosen) in
+        let (p, z, r) = search-of kind sound samples s .one-chosen (a .place) (b .place) (a .slicer) (b .slicer) (a .repairs) (b .repairs) (x .chosen) (y .chosen) in
         let m : a .message ≡ b .message = x .message ∙ rw (p, z, r) (sym (y .message)) in
         let i : pos (a .index) ≡ pos (b .index) = x .timed .gained ∙ rw (p, m) (sym (y .timed .gained)) in
         record {
@@ -69,7 +70,7 @@ module _ (samples : List Float) (s : Settings) (index : ℕ) where
           fraction = one-fraction p m (x .timed) (y .timed);
         }
 
-    no-message : a .number ≡ b .number → Zeros a → Zeros b → Same a b
+    no-message : a .number ≡ b .number → Zeros kind a → Zeros kind b → Same a b
     no-message n x y =
         record {
           number = n;
@@ -82,7 +83,7 @@ module _ (samples : List Float) (s : Settings) (index : ℕ) where
           fraction = inl (rw (x .fraction, y .fraction) zero-is);
         }
 
-    pub one-answer : Answered samples s index a → Answered samples s index b → Same a b
+    pub one-answer : Answered kind samples s index a → Answered kind samples s index b → Same a b
     one-answer x y = let n = one-number (a .number) (b .number) (x .numbered) (y .numbered) in elim (ℕ-discrete (a .number) 0) [
       | yes e ↦ one-message n (x .returned e) (y .returned (sym n ∙ e))
       | no e ↦ no-message n (x .zeros e) (y .zeros (λ q. e (n ∙ q)))

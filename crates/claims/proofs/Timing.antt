@@ -19,7 +19,8 @@ use Rattle.timing.proofs.Reach.{fraction-reaches}
 use Rattle.timing.proofs.Laws.{reaches, ends-in-range, nan-stays, at-most-two}
 use Rattle.timing.proofs.Moving.{moves-exact}
 use Rattle.search.specs.declared.Candidate.{Candidate}
-use Rattle.search.specs.Seen.{windowOf}
+use Rattle.search.specs.Kinds.{Kind}
+use Rattle.search.specs.Seen.{seen}
 use Rattle.search.specs.When.{promptOf, about, fractionAt, timingAt, indexOf}
 use Rattle.search.specs.Answers.{answerOf}
 use Rattle.claims.specs.Timing.{movesFor, WellTimed}
@@ -38,10 +39,10 @@ moved-index given start (negsuc n) h = sym (sub-ge (given - 128 + start) (suc n)
 by-hand : (given : ℕ) (p : Place) → given - 128 + sampleStart p ≡ given - 128 + 4 * (2 * p .bit + p .symbol) + p .phase
 by-hand given p = omega arith
 
-pub timed : (samples : List Float) (index : ℕ) (c : Candidate) → 1 ≤ c .place .bit → WellTimed samples index (answerOf samples index c)
+pub timed : (kind : Kind) (samples : List Float) (index : ℕ) (c : Candidate) → 1 ≤ c .place .bit → WellTimed kind samples index (answerOf kind samples index c)
 unfolding answerOf timingAt timingOf
-timed samples index c h =
-    let w = windowOf 14 samples in
+timed kind samples index c h =
+    let w = seen kind samples in
     let start = sampleStart (c .place) in
     let f = fractionAt w (c .message) start in
     let p = promptOf w (c .message) start in

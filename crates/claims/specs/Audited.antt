@@ -1,10 +1,11 @@
--- WHAT IS CLAIMED OF A DECODE: `a` is its answer for the samples of a window, the settings `s` and the index of the window's sample 128.
+-- WHAT IS CLAIMED OF A DECODE, of long messages or of short ones: `a` is its answer for the samples of a window, the settings `s` and the
+-- index of the window's sample 128.
 -- Assumes nothing.
 use mathlib.Core.Path.{_≡_}
 use mathlib.Core.Bool.{true}
 use mathlib.Core.List.{List}
 use mathlib.Core.Logic.{_⊎_, _↔_, _≢_}
-use Prim.Native.Nat.{ℕ, _≤_, _<_}
+use Prim.Native.Nat.{ℕ, _*_, _≤_, _<_}
 use lib.ListN.{replicate}
 use lib.Ieee.{Float, eq, isNan}
 use Rattle.floats.specs.Numbers.{zeroF}
@@ -17,9 +18,9 @@ use Rattle.place.specs.declared.Slicer.{Slicer}
 use Rattle.place.specs.declared.Slicer.the-variants.{Coherent}
 use Rattle.search.specs.declared.Settings.{Settings}
 use Rattle.search.specs.declared.Answer.{Answer}
-use Rattle.search.specs.Kinds.{long}
+use Rattle.search.specs.Kinds.{Kind, placesOf}
 use Rattle.search.specs.Window.{_∈_}
-use Rattle.search.specs.Seen.{bitsAt, windowOf}
+use Rattle.search.specs.Seen.{bitsAt, seen}
 use Rattle.claims.specs.Bits.{slicerBit}
 use Rattle.claims.specs.Fits.{Fits, cn0With, OnlyRepair}
 use Rattle.claims.specs.Chosen.{Chosen}
@@ -27,23 +28,23 @@ use Rattle.claims.specs.Calls.{Accepted, Numbered}
 use Rattle.claims.specs.Timing.{WellTimed}
 
 -- An answer with number 0.
-pub record Returned (samples : List Float) (s : Settings) (index : ℕ) (a : Answer) : Type 0 where
+pub record Returned (kind : Kind) (samples : List Float) (s : Settings) (index : ℕ) (a : Answer) : Type 0 where
   -- 1. The place that it names holds the repairs that it names, of the slicer that it names, and they are chosen among all places.
-  pub chosen : Chosen long s (windowOf 14 samples) (a .place) (a .slicer) (a .repairs)
-  -- The message is that slicer's 112 bits there, turned over at these positions; the cn0 is the message's.
-  pub message : a .message ≡ repaired (bitsAt 14 samples (a .slicer) (a .place)) (a .repairs)
-  pub cn0 : a .cn0 ≡ cn0With (windowOf 14 samples) (a .place) (a .slicer) (a .repairs)
+  pub chosen : Chosen kind s (seen kind samples) (a .place) (a .slicer) (a .repairs)
+  -- The message is that slicer's bits there, 112 or 56, turned over at these positions; the cn0 is the message's.
+  pub message : a .message ≡ repaired (bitsAt (kind .bytes) samples (a .slicer) (a .place)) (a .repairs)
+  pub cn0 : a .cn0 ≡ cn0With (seen kind samples) (a .place) (a .slicer) (a .repairs)
   -- In samples: each of its bits is unlike the comparison of two symbols exactly when its position is named.
-  pub differs : (j : ℕ) → j < 112 → (bitAt (a .message) j ≢ slicerBit samples (a .slicer) (a .place) j) ↔ Named j (a .repairs)
+  pub differs : (j : ℕ) → j < 8 * kind .bytes → (bitAt (a .message) j ≢ slicerBit samples (a .slicer) (a .place) j) ↔ Named j (a .repairs)
   -- 2. No other choice of at most two different positions clears those bits.
-  pub only-repair : OnlyRepair 14 (bitsAt 14 samples (a .slicer) (a .place)) (a .repairs)
+  pub only-repair : OnlyRepair (kind .bytes) (bitsAt (kind .bytes) samples (a .slicer) (a .place)) (a .repairs)
   -- 3. When it came.
-  pub timed : WellTimed samples index a
+  pub timed : WellTimed kind samples index a
 
 -- All fields but the number are zeros: for the slicer and the repairs that means coherent and none.
-pub record Zeros (a : Answer) : Type 0 where
+pub record Zeros (kind : Kind) (a : Answer) : Type 0 where
   pub place : a .place ≡ record { bit = 0; phase = 0; symbol = 0 }
-  pub message : a .message ≡ replicate 14 0
+  pub message : a .message ≡ replicate (kind .bytes) 0
   pub repairs : a .repairs ≡ None
   pub slicer : a .slicer ≡ Coherent
   pub cn0 : a .cn0 ≡ zeroF
@@ -51,14 +52,14 @@ pub record Zeros (a : Answer) : Type 0 where
   pub fraction : a .fraction ≡ zeroF
 
 -- Every answer.
-pub record Answered (samples : List Float) (s : Settings) (index : ℕ) (a : Answer) : Type 0 where
-  -- 4. Its number: 1 exactly when none of the 248 places holds anything, 0 exactly when one does, else the refusal.
-  pub numbered : Numbered samples s index (a .number)
-  pub returned : a .number ≡ 0 → Returned samples s index a
-  pub zeros : a .number ≢ 0 → Zeros a
+pub record Answered (kind : Kind) (samples : List Float) (s : Settings) (index : ℕ) (a : Answer) : Type 0 where
+  -- 4. Its number: 1 exactly when none of the places, 248 or 696, holds anything, 0 exactly when one does, else the refusal.
+  pub numbered : Numbered kind samples s index (a .number)
+  pub returned : a .number ≡ 0 → Returned kind samples s index a
+  pub zeros : a .number ≢ 0 → Zeros kind a
   -- 5. It cannot keep silent: where anything fits with at most one position, the number is 0, and no more positions are named.
-  pub not-silent : Accepted samples s index → (p : Place) → p ∈ long .places → (z : Slicer) (ρ : Repairs)
-      → Fits long s (windowOf 14 samples) p z ρ → count ρ ≤ 1 → (a .number ≡ 0) × (count (a .repairs) ≤ count ρ)
+  pub not-silent : Accepted samples s index → (p : Place) → p ∈ placesOf kind → (z : Slicer) (ρ : Repairs)
+      → Fits kind s (seen kind samples) p z ρ → count ρ ≤ 1 → (a .number ≡ 0) × (count (a .repairs) ≤ count ρ)
 
 -- Two answers are the same: the fraction as a number, or as no number.
 pub record Same (a b : Answer) : Type 0 where
@@ -76,10 +77,10 @@ abbrev pub atLevel : ℕ → Settings → Settings
 atLevel m s = record { level = m; threshold = s .threshold; second = s .second; distance = s .distance }
 
 -- ALL OF IT: `decode` is what a program answers.
-pub record Audited (decode : List Float → Settings → ℕ → Answer) : Type 0 where
-  pub answered : (samples : List Float) (s : Settings) (index : ℕ) → Answered samples s index (decode samples s index)
+pub record Audited (kind : Kind) (decode : List Float → Settings → ℕ → Answer) : Type 0 where
+  pub answered : (samples : List Float) (s : Settings) (index : ℕ) → Answered kind samples s index (decode samples s index)
   -- 6. What is returned at one level is returned, all fields included, at every higher level.
   pub higher : (samples : List Float) (s : Settings) (index m : ℕ) → decode samples s index .number ≡ 0 → s .level ≤ m → m ≤ 2
       → decode samples (atLevel m s) index ≡ decode samples s index
   -- 7. These claims leave nothing open: whatever else satisfies them is the same answer.
-  pub only : (samples : List Float) (s : Settings) (index : ℕ) (b : Answer) → Answered samples s index b → Same b (decode samples s index)
+  pub only : (samples : List Float) (s : Settings) (index : ℕ) (b : Answer) → Answered kind samples s index b → Same b (decode samples s index)

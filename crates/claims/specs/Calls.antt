@@ -12,9 +12,9 @@ use Rattle.annex10.specs.declared.Repairs.{Repairs}
 use Rattle.place.specs.declared.Place.{Place}
 use Rattle.place.specs.declared.Slicer.{Slicer}
 use Rattle.search.specs.declared.Settings.{Settings}
-use Rattle.search.specs.Kinds.{Kind, long}
+use Rattle.search.specs.Kinds.{Kind}
 use Rattle.search.specs.Window.{Window}
-use Rattle.search.specs.Seen.{windowOf}
+use Rattle.search.specs.Seen.{seen}
 use Rattle.claims.specs.Chosen.{Held}
 
 -- ---- what is accepted
@@ -50,13 +50,13 @@ SomeHeld kind s w = (p : Place) × (z : Slicer) × (ρ : Repairs) × Held kind s
 
 -- ---- the number: each is given exactly when it is the lowest from 2 up that applies; 1 and 0 where none does
 
-pub record Numbered (samples : List Float) (s : Settings) (index number : ℕ) : Type 0 where
+pub record Numbered (kind : Kind) (samples : List Float) (s : Settings) (index number : ℕ) : Type 0 where
   pub two : (number ≡ 2) ↔ ¬ RightLength samples
   pub four : (number ≡ 4) ↔ (RightLength samples × ¬ RightLevel s)
   pub five : (number ≡ 5) ↔ (RightLength samples × RightLevel s × ¬ RightThresholds s)
   pub six : (number ≡ 6) ↔ (RightLength samples × RightLevel s × RightThresholds s × ¬ RightIndex index)
-  pub one : (number ≡ 1) ↔ (Accepted samples s index × NoneHeld long s (windowOf 14 samples))
-  pub zero : (number ≡ 0) ↔ (Accepted samples s index × SomeHeld long s (windowOf 14 samples))
+  pub one : (number ≡ 1) ↔ (Accepted samples s index × NoneHeld kind s (seen kind samples))
+  pub zero : (number ≡ 0) ↔ (Accepted samples s index × SomeHeld kind s (seen kind samples))
   -- there is no other number
   pub top : number ≤ 6
   pub not-three : number ≢ 3

@@ -14,16 +14,16 @@ use Rattle.place.specs.declared.Place.{Place}
 use Rattle.place.specs.declared.Slicer.{Slicer}
 use Rattle.place.specs.All.{listed, placeAt}
 use Rattle.search.specs.declared.Settings.{Settings}
-use Rattle.search.specs.Kinds.{Kind}
+use Rattle.search.specs.Kinds.{Kind, placesOf}
 use Rattle.search.specs.Window.{_∈_, Window}
 use Rattle.claims.specs.Fits.{cn0With, Holds}
 
 -- There are so many places. They are those with a bit offset of 1 to m, a clock phase of 0 to 3 and a symbol offset of 0 or 1.
 pub record Places (kind : Kind) (m many : ℕ) : Type 0 where
-  pub counted : length (kind .places) ≡ many
-  pub each : (p : Place) → (p ∈ kind .places) ↔ (listed m p ≡ true)
+  pub counted : length (placesOf kind) ≡ many
+  pub each : (p : Place) → (p ∈ placesOf kind) ↔ (listed m p ≡ true)
   -- they are scanned by bit offset, then by clock phase, then by symbol offset
-  pub order : kind .places ≡ tabulate many placeAt
+  pub order : placesOf kind ≡ tabulate many placeAt
 
 -- q comes before p in that order
 abbrev pub Sooner : Place → Place → Type 0
@@ -31,7 +31,7 @@ Sooner q p = 8 * q .bit + 2 * q .phase + q .symbol < 8 * p .bit + 2 * p .phase +
 
 -- a place that is searched holds ρ of z
 abbrev pub Held : Kind → Settings → Window → Place → Slicer → Repairs → Type 0
-Held kind s w p z ρ = (p ∈ kind .places) × Holds kind s w p z ρ
+Held kind s w p z ρ = (p ∈ placesOf kind) × Holds kind s w p z ρ
 
 -- it holds n repairs
 abbrev pub HeldWith : Kind → Settings → Window → ℕ → Place → Slicer → Repairs → Type 0

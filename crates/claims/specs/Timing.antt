@@ -10,12 +10,13 @@ use Rattle.place.specs.Step.{sampleStart}
 use Rattle.timing.specs.Subsample.{halves}
 use Rattle.timing.specs.Exact.{LessBy}
 use Rattle.search.specs.declared.Answer.{Answer}
-use Rattle.search.specs.Seen.{windowOf}
+use Rattle.search.specs.Kinds.{Kind}
+use Rattle.search.specs.Seen.{seen}
 use Rattle.search.specs.When.{fractionAt}
 
 -- the fraction before any sample moves: the parabola about the prompt, held to [-1, 1], plus the offset, minus 0.5
-abbrev pub fractionFor : List Float → Answer → Float
-fractionFor samples a = fractionAt (windowOf 14 samples) (a .message) (sampleStart (a .place))
+abbrev pub fractionFor : Kind → List Float → Answer → Float
+fractionFor kind samples a = fractionAt (seen kind samples) (a .message) (sampleStart (a .place))
 
 -- how many samples move from it to the index: two back below -1.5, one below -0.5, two on from 1.5, one from 0.5; for a NaN none
 abbrev pub movesFor : Float → ℤ
@@ -24,12 +25,12 @@ movesFor f =
     (cond (lt f (halves true 1)) (negsuc 0) (cond (le (halves false 3) f) (pos 2) (cond (le (halves false 1) f) (pos 1) (pos 0))))
 
 -- `index` is that of the window's sample 128.
-pub record WellTimed (samples : List Float) (index : ℕ) (a : Answer) : Type 0 where
+pub record WellTimed (kind : Kind) (samples : List Float) (index : ℕ) (a : Answer) : Type 0 where
   -- the index gains the moves, and the fraction loses them exactly, with nothing rounded; it ends in [-0.5, 0.5)
   pub gained : pos (a .index)
-      ≡ pos (index - 128 + 4 * (2 * a .place .bit + a .place .symbol) + a .place .phase) +ℤ movesFor (fractionFor samples a)
-  pub lost : isNan (fractionFor samples a) ≡ false → LessBy (movesFor (fractionFor samples a)) (fractionFor samples a) (a .fraction)
-  pub within : isNan (fractionFor samples a) ≡ false
+      ≡ pos (index - 128 + 4 * (2 * a .place .bit + a .place .symbol) + a .place .phase) +ℤ movesFor (fractionFor kind samples a)
+  pub lost : isNan (fractionFor kind samples a) ≡ false → LessBy (movesFor (fractionFor kind samples a)) (fractionFor kind samples a) (a .fraction)
+  pub within : isNan (fractionFor kind samples a) ≡ false
       → (le (halves true 1) (a .fraction) ≡ true) × (lt (a .fraction) (halves false 1) ≡ true)
   -- but a NaN stays
-  pub nan-stays : isNan (fractionFor samples a) ≡ true → isNan (a .fraction) ≡ true
+  pub nan-stays : isNan (fractionFor kind samples a) ≡ true → isNan (a .fraction) ≡ true

@@ -1,4 +1,4 @@
--- Of a window is said what a decode answers: what the checks let pass it does not refuse.
+-- Of a window is said what its decodes answer: what the checks let pass they do not refuse.
 -- Assumes nothing.
 use mathlib.Core.Path.{_≡_, refl}
 use mathlib.Core.Bool.{Bool, true, false, cond}
@@ -17,8 +17,8 @@ use Rattle.lists.proofs.Table.{length-tabulate}
 use Rattle.search.specs.declared.Settings.{Settings}
 use Rattle.search.specs.declared.Candidate.{Candidate}
 use Rattle.search.specs.Choice.{best}
-use Rattle.search.specs.Kinds.{long}
-use Rattle.search.specs.Seen.{windowOf}
+use Rattle.search.specs.Kinds.{Kind}
+use Rattle.search.specs.Seen.{seen}
 use Rattle.search.specs.Answers.{windowNumber, settingsNumber, indexNumber, answered as found, answerOf, decodeOf}
 use Rattle.words.specs.Words.{littleEndian, floatAt}
 use Rattle.feed.specs.Parts.{Stop, end, failure, Line, refusal, nextBytes, nextNumber, need}
@@ -53,17 +53,17 @@ all-end failure [] = (tt, tt)
 all-end end (b ∷ bs) = (tt, tt)
 all-end failure (b ∷ bs) = (tt, tt)
 
-number-of : (samples : List Float) (index : ℕ) (o : Option Candidate) → found samples index o .number ≤ 1
+number-of : (kind : Kind) (samples : List Float) (index : ℕ) (o : Option Candidate) → found kind samples index o .number ≤ 1
 unfolding answerOf
-number-of samples index none = omega arith
-number-of samples index (some c) = omega arith
+number-of kind samples index none = omega arith
+number-of kind samples index (some c) = omega arith
 
 not-refused : (part : List ℕ) (s : Settings) (index : ℕ) → settingsNumber s ≡ 0 → indexNumber index ≡ 0
-    → decodeOf (tabulate 2310 (floatAt part)) s index .number ≤ 1
+    → (kind : Kind) → decodeOf kind (tabulate 2310 (floatAt part)) s index .number ≤ 1
 unfolding decodeOf windowNumber
-not-refused part s index a b =
+not-refused part s index a b kind =
     let samples = tabulate 2310 (floatAt part) in
-    simp (length-tabulate 2310 (floatAt part), a, b) (number-of samples index (best long s (windowOf 14 samples)))
+    simp (length-tabulate 2310 (floatAt part), a, b) (number-of kind samples index (best kind s (seen kind samples)))
 
 -- every index of a list is taken
 abbrev Taken : List ℕ → Type 0

@@ -6,6 +6,7 @@ use mathlib.Core.Logic.{_≢_, _⊎_}
 use Prim.Native.Nat.{ℕ, _+_, _-_, _≤_, _<_}
 use lib.ListN.{length}
 use Rattle.lists.specs.From.{tabulate}
+use Rattle.search.specs.Kinds.{Kind}
 use Rattle.search.specs.Answers.{decodeOf}
 use Rattle.words.specs.Words.{floatAt}
 use Rattle.feed.specs.declared.Field.{Field}
@@ -52,10 +53,10 @@ leftOf s = leftAt (s .stage) (s .done)
 abbrev pub OrRefused : List Line → List Line → Type 0
 OrRefused a b = (a ≡ b) ⊎ (a ≡ b ++ (refusal 10 ∷ []))
 
--- the samples of a window are 9,240 bytes, and its decode finds a message or none: it refuses nothing
+-- the samples of a window are 9,240 bytes, and a decode of them, of either kind, finds a message or none: it refuses nothing
 abbrev pub NotRefused : Line → Type 0
 NotRefused (head n) = Unit {0}
-NotRefused (window k s index part) = (length part ≡ 9240) × (decodeOf (tabulate 2310 (floatAt part)) s index .number ≤ 1)
+NotRefused (window k s index part) = (length part ≡ 9240) × ((kind : Kind) → decodeOf kind (tabulate 2310 (floatAt part)) s index .number ≤ 1)
 NotRefused (refusal n) = Unit {0}
 
 abbrev pub Every : (Line → Type 0) → List Line → Type 0
@@ -70,7 +71,7 @@ pub record Feeds : Type 0 where
   -- Of an input that cannot be read any further the same is said as of one that ends there, with refusal 10 behind it where that end
   -- would have been good.
   pub broken : (input : List ℕ) → OrRefused (linesOf failure input) (linesOf end input)
-  -- Of a window is said what a decode answers.
+  -- Of a window is said what its decodes answer.
   pub answered : (stop : Stop) (input : List ℕ) → Every NotRefused (linesOf stop input)
   -- Whatever the state and the part, fewer are left after a step: a program that goes on while something is wanted ends.
   pub nearer : (s : State) (part : List ℕ) → wantedOf s ≢ 0 → leftOf (fedOf s part .state) < leftOf s

@@ -1,9 +1,10 @@
--- Every answer of a decode is stored, whatever the samples, the settings and the index are.
+-- Every answer of a decode is stored, has as many bytes as its kind, and is a message, none or a refusal of 2 to 6: whatever the samples,
+-- the settings and the index are.
 -- Assumes nothing.
-use mathlib.Core.Path.{_≡_, refl, subst}
+use mathlib.Core.Path.{_≡_, refl, _∙_, subst}
 use mathlib.Core.Bool.{Bool, true, false, cond, _&&_}
 use mathlib.Core.List.{List, [], _∷_}
-use mathlib.Core.Logic.{_⊎_, inl, inr}
+use mathlib.Core.Logic.{_≢_, _⊎_, inl, inr}
 use mathlib.Core.Option.{Option, none, some}
 use Prim.Native.Nat.{ℕ, zero, suc, _+_, _-_, _*_, _/_, _%_, _^_, _<_, _≤_}
 use native.Mathlib.Omega.{arith}
@@ -14,15 +15,17 @@ use lib.Ieee.{Float, nan, inf, fin, binary32, fits, lt, le}
 use lib.Ieee.Bits.{ofBits-fits}
 use lib.Ieee.Scale.{finite}
 use lib.Ieee.Fits.{cond-fits, nan-fits, inf-fits, add-fits, sub-fits, mul-fits}
-use lib.ListN.{length, getD, set, replicate, List·getD-eq-default}
+use lib.ListN.{length, getD, set, replicate, length-replicate, List·getD-eq-default}
 use lib.Pow.{pow-lt}
 use Rattle.streams.specs.Streams.{messageAt}
+use Rattle.streams.proofs.Reading.{message-length}
 use Rattle.lists.specs.Bits.{bitAt, value, packed}
 use Rattle.lists.specs.From.{tabulate}
 use Rattle.lists.proofs.Table.{length-tabulate, getD-tabulate}
 use Rattle.lists.proofs.Bits.{bitAt-lt, value-lt}
 use Rattle.annex10.specs.Flip.{flip}
 use Rattle.annex10.specs.Repair.{Proper, repaired}
+use Rattle.annex10.proofs.Repairing.{length-repaired}
 use Rattle.annex10.specs.declared.Repairs.{Repairs}
 use Rattle.annex10.specs.declared.Repairs.the-variants.{None, One, Two}
 use Rattle.place.specs.declared.Place.{Place}
@@ -39,16 +42,17 @@ use Rattle.timing.specs.Inner.{movesCount}
 use Rattle.timing.proofs.Laws.{few-moves}
 use Rattle.search.specs.declared.Settings.{Settings}
 use Rattle.search.specs.declared.Candidate.{Candidate}
+use Rattle.search.specs.declared.Answer.{Answer}
 use Rattle.search.specs.declared.Reading.{Reading}
 use Rattle.search.specs.Window.{Window, _∈_}
 use Rattle.search.specs.Choice.{candidate, candidateAt, best}
-use Rattle.search.specs.Kinds.{long}
-use Rattle.search.specs.Seen.{stream, bitsAt, windowOf}
+use Rattle.search.specs.Kinds.{Kind, long, short, placesOf}
+use Rattle.search.specs.Seen.{stream, bitsAt, windowOf, seen}
 use Rattle.search.specs.When.{timingAt, moved, indexOf}
 use Rattle.search.specs.Answers.{orNumber, windowNumber, settingsNumber, indexNumber, refusedAnswer, answerOf, answered, decodeOf}
 use Rattle.search.proofs.Passing.{sound}
 use Rattle.search.proofs.Scanning.{not-some, scan-from, survivor-is}
-use Rattle.listing.specs.Determines.{InBytes, Stored}
+use Rattle.listing.specs.Determines.{InBytes, Stored, Either}
 
 -- ---- messages
 
@@ -83,10 +87,10 @@ repaired-bytes m None h = h
 repaired-bytes m (One j) h = flip-bytes m j h
 repaired-bytes m (Two j k) h = flip-bytes (flip m j) k (flip-bytes m j h)
 
-in-bytes : (ρ : Repairs) → Proper 14 ρ → InBytes ρ
-in-bytes None p = tt
-in-bytes (One j) p = omega arith
-in-bytes (Two j k) p = (omega arith, omega arith)
+in-bytes : (n : ℕ) (ρ : Repairs) → n ≤ 32 → Proper n ρ → InBytes ρ
+in-bytes n None h p = tt
+in-bytes n (One j) h p = omega arith
+in-bytes n (Two j k) h p = (omega arith, omega arith)
 
 -- ---- floats
 
@@ -124,7 +128,11 @@ index-stored given start f h k = omega (arith, moved-few (timingOf f .moves) (gi
 
 -- ---- the number
 
-either : (b : Bool) (x y : ℕ) → x ≤ 6 → y ≤ 6 → cond b x y ≤ 6
+-- 0, or a refusal
+abbrev Number : ℕ → Type 0
+Number n = (n ≤ 6) × (n ≢ 1)
+
+either : (b : Bool) (x y : ℕ) → Number x → Number y → Number (cond b x y)
 either true x y h k = h
 either false x y h k = k
 
@@ -138,13 +146,14 @@ or-zero n m = go (eqb n 0) refl
 abbrev refusalOf : List Float → Settings → ℕ → ℕ
 refusalOf samples s index = orNumber (windowNumber samples) (orNumber (settingsNumber s) (indexNumber index))
 
-small : (samples : List Float) (s : Settings) (index : ℕ) → refusalOf samples s index ≤ 6
+refusal : (samples : List Float) (s : Settings) (index : ℕ) → Number (refusalOf samples s index)
 unfolding windowNumber settingsNumber indexNumber
-small samples s index =
-    let i : indexNumber index ≤ 6 = either (leb 128 index && leb index (2 ^ 63)) 0 6 (omega arith) (omega arith) in
-    let f : cond (finite (s .threshold) && finite (s .second)) 0 5 ≤ 6 = either (finite (s .threshold) && finite (s .second)) 0 5 (omega arith) (omega arith) in
-    let t : settingsNumber s ≤ 6 = either (leb (s .level) 2) _ 4 f (omega arith) in
-    let w : windowNumber samples ≤ 6 = either (eqb (length samples) 2310) 0 2 (omega arith) (omega arith) in
+refusal samples s index =
+    let taken : Number 0 = (omega arith, λ z. omega arith) in
+    let i : Number (indexNumber index) = either (leb 128 index && leb index (2 ^ 63)) 0 6 taken (omega arith, λ z. omega arith) in
+    let f : Number (cond (finite (s .threshold) && finite (s .second)) 0 5) = either (finite (s .threshold) && finite (s .second)) 0 5 taken (omega arith, λ z. omega arith) in
+    let t : Number (settingsNumber s) = either (leb (s .level) 2) _ 4 f (omega arith, λ z. omega arith) in
+    let w : Number (windowNumber samples) = either (eqb (length samples) 2310) 0 2 taken (omega arith, λ z. omega arith) in
     either (eqb (windowNumber samples) 0) _ _ (either (eqb (settingsNumber s) 0) _ _ i t) w
 
 index-right : (index : ℕ) → indexNumber index ≡ 0 → index ≤ 2 ^ 63
@@ -158,58 +167,114 @@ index-right index = go (leb 128 index) (leb index (2 ^ 63)) refl
 
 -- ---- the answer
 
-refused-stored : (n : ℕ) → n < 2 ^ 32 → Stored (refusedAnswer n)
-refused-stored n h =
-    record {
-      number = h;
-      message = zeros 14;
-      repairs = tt;
-      cn0 = ofBits-fits binary32 0;
-      index = omega arith;
-      fraction = ofBits-fits binary32 0;
-    }
-  where
-    zeros : (m : ℕ) → Bytes (replicate m 0)
-    zeros zero k = omega arith
-    zeros (suc m) zero = omega arith
-    zeros (suc m) (suc k) = zeros m k
+-- positions are bytes, and the samples that messages start with few
+pub record Small (kind : Kind) : Type 0 where
+  bytes : kind .bytes ≤ 32
+  last : kind .last ≤ 100
 
--- a reading at a place that is searched
-reading-stored : (samples : List Float) (index : ℕ) (p : Place) (r : Reading) → index ≤ 2 ^ 63 → Listed 31 p → Proper 14 (r .repairs)
-    → Stored (answerOf samples index (candidate (windowOf 14 samples) p r))
-unfolding answerOf candidate windowOf bitsAt timingAt
-reading-stored samples index p r h l q =
-    record {
-      number = omega arith;
-      message = repaired-bytes _ (r .repairs) (message-bytes (stream samples (r .slicer) p) 14 (p .bit));
-      repairs = in-bytes (r .repairs) q;
-      cn0 = cn0-fits _ _;
-      index = index-stored index (sampleStart p) _ h (omega arith);
-      fraction = timing-fits _ _;
-    }
+pub small-kind : (kind : Kind) → Either kind → Small kind
+unfolding long short
+small-kind kind (inl e) = rw e (record { bytes = omega arith; last = omega arith })
+small-kind kind (inr e) = rw e (record { bytes = omega arith; last = omega arith })
 
-module _ (samples : List Float) (s : Settings) (index : ℕ) where
-  found-stored : (c : Candidate) → index ≤ 2 ^ 63 → best long s (windowOf 14 samples) ≡ some c → Stored (answerOf samples index c)
-  unfolding best candidateAt long
-  found-stored c h e = go (scan-from (candidateAt long s w) (long .places) none e)
+-- what holds of an answer of a decode
+pub record Kept (kind : Kind) (a : Answer) : Type 0 where
+  pub stored : Stored a
+  pub size : length (a .message) ≡ kind .bytes
+
+module _ (kind : Kind) (small : Small kind) where
+  refused-kept : (n : ℕ) → n < 2 ^ 32 → Kept kind (refusedAnswer kind n)
+  refused-kept n h =
+      record {
+        stored =
+            record {
+              number = h;
+              message = zeros (kind .bytes);
+              repairs = tt;
+              cn0 = ofBits-fits binary32 0;
+              index = omega arith;
+              fraction = ofBits-fits binary32 0;
+            };
+        size = length-replicate (kind .bytes) 0;
+      }
+    where
+      zeros : (m : ℕ) → Bytes (replicate m 0)
+      zeros zero k = omega arith
+      zeros (suc m) zero = omega arith
+      zeros (suc m) (suc k) = zeros m k
+
+  -- a reading at a place that is searched
+  reading-kept : (samples : List Float) (index : ℕ) (p : Place) (r : Reading) → index ≤ 2 ^ 63 → Listed (kind .last) p
+      → Proper (kind .bytes) (r .repairs) → Kept kind (answerOf kind samples index (candidate (seen kind samples) p r))
+  unfolding answerOf candidate windowOf bitsAt timingAt
+  reading-kept samples index p r h l q =
+      let bits = messageAt (stream samples (r .slicer) p) (kind .bytes) (p .bit) in
+      record {
+        stored =
+            record {
+              number = omega arith;
+              message = repaired-bytes bits (r .repairs) (message-bytes (stream samples (r .slicer) p) (kind .bytes) (p .bit));
+              repairs = in-bytes (kind .bytes) (r .repairs) (small .bytes) q;
+              cn0 = cn0-fits _ _;
+              index = index-stored index (sampleStart p) _ h (omega (arith, small .last));
+              fraction = timing-fits _ _;
+            };
+        size = length-repaired bits (r .repairs) ∙ message-length (stream samples (r .slicer) p) (kind .bytes) (p .bit);
+      }
+
+module _ (kind : Kind) (small : Small kind) (samples : List Float) (s : Settings) (index : ℕ) where
+  found-kept : (c : Candidate) → index ≤ 2 ^ 63 → best kind s (seen kind samples) ≡ some c → Kept kind (answerOf kind samples index c)
+  unfolding best candidateAt
+  found-kept c h e = go (scan-from (candidateAt kind s w) (placesOf kind) none e)
     where
       w : Window
-      w = windowOf 14 samples
+      w = seen kind samples
 
-      go : (none ≡ some c) ⊎ ((p : Place) × (p ∈ long .places) × (candidateAt long s w p ≡ some c)) → Stored (answerOf samples index c)
+      go : (none ≡ some c) ⊎ ((p : Place) × (p ∈ placesOf kind) × (candidateAt kind s w p ≡ some c)) → Kept kind (answerOf kind samples index c)
       go (inl x) = not-some x
       go (inr (p, m, q)) =
           let v = survivor-is s w p _ q in
-          subst (λ (x : Candidate). Stored (answerOf samples index x)) (v .is)
-          (reading-stored samples index p (v .of) h (listed-gives 31 p (member-listed 31 p m)) (sound long _ _ _ .so (v .of) (v .read) .proper))
+          subst (λ (x : Candidate). Kept kind (answerOf kind samples index x)) (v .is)
+          (reading-kept kind small samples index p (v .of) h (listed-gives (kind .last) p (member-listed (kind .last) p m))
+          (sound kind _ _ _ .so (v .of) (v .read) .proper))
 
-  pub decode-stored : Stored (decodeOf samples s index)
+  pub decode-kept : Kept kind (decodeOf kind samples s index)
   unfolding decodeOf
-  decode-stored = go (eqb (refusalOf samples s index) 0) refl (best long s (windowOf 14 samples)) refl
+  decode-kept = go (eqb (refusalOf samples s index) 0) refl (best kind s (seen kind samples)) refl
     where
-      go : (b : Bool) → eqb (refusalOf samples s index) 0 ≡ b → (o : Option Candidate) → best long s (windowOf 14 samples) ≡ o
-          → Stored (cond b (answered samples index o) (refusedAnswer (refusalOf samples s index)))
-      go false e o q = refused-stored _ (omega (arith, small samples s index))
-      go true e none q = refused-stored 1 (omega arith)
+      go : (b : Bool) → eqb (refusalOf samples s index) 0 ≡ b → (o : Option Candidate) → best kind s (seen kind samples) ≡ o
+          → Kept kind (cond b (answered kind samples index o) (refusedAnswer kind (refusalOf samples s index)))
+      go false e o q = refused-kept kind small _ (omega (arith, refusal samples s index .0))
+      go true e none q = refused-kept kind small 1 (omega arith)
       go true e (some c) q =
-          found-stored c (index-right index (or-zero (settingsNumber s) _ (or-zero (windowNumber samples) _ (eqb-true _ 0 e)))) q
+          found-kept c (index-right index (or-zero (settingsNumber s) _ (or-zero (windowNumber samples) _ (eqb-true _ 0 e)))) q
+
+-- ---- the two answers of a window
+
+-- the number of a short answer of which nothing is said, behind a long one with the number n
+abbrev pub unsaid : ℕ → ℕ
+unsaid zero = 1
+unsaid (suc zero) = 1
+unsaid (suc (suc n)) = suc (suc n)
+
+-- the long answer alone is said, or the short one alone, or both
+abbrev pub Said : Answer → Answer → Type 0
+Said a b = (b .number ≡ unsaid (a .number)) ⊎ (((a .number ≡ 1) × (b .number ≡ 0)) ⊎ ((a .number ≡ 0) × (b .number ≡ 0)))
+
+pub decodes-said : (samples : List Float) (s : Settings) (index : ℕ) → Said (decodeOf long samples s index) (decodeOf short samples s index)
+unfolding decodeOf answerOf
+decodes-said samples s index =
+    go (eqb (refusalOf samples s index) 0) refl (best long s (seen long samples)) (best short s (seen short samples))
+  where
+    above : (n : ℕ) → n ≢ 0 → n ≢ 1 → n ≡ unsaid n
+    above zero p q = absurd (p refl)
+    above (suc zero) p q = absurd (q refl)
+    above (suc (suc n)) p q = refl
+
+    go : (b : Bool) → eqb (refusalOf samples s index) 0 ≡ b → (o i : Option Candidate)
+        → Said (cond b (answered long samples index o) (refusedAnswer long (refusalOf samples s index))) (cond b (answered short samples index i) (refusedAnswer short (refusalOf samples s index)))
+    go false e o i = inl (above _ (eqb-false _ 0 e) (refusal samples s index .1))
+    go true e none none = inl refl
+    go true e (some c) none = inl refl
+    go true e none (some d) = inr (inl (refl, refl))
+    go true e (some c) (some d) = inr (inr (refl, refl))

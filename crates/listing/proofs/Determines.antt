@@ -1,128 +1,98 @@
--- A line determines its answer: equal lines have equal fields, and each field is read back.
+-- A line determines its answer, and the lines of a window both answers.
 -- Assumes nothing.
-use mathlib.Core.Path.{_≡_, refl, sym, ap, _∙_}
-use mathlib.Core.List.{List, [], _∷_, head-eq-of-cons-eq, tail-eq-of-cons-eq}
+use mathlib.Core.Path.{_≡_, refl, sym, ap, _∙_, subst}
+use mathlib.Core.List.{_++_}
+use mathlib.Core.Logic.{inl, inr}
 use Prim.Native.Nat.{ℕ, zero, suc, _^_, _<_, _≤_}
 use native.Mathlib.Omega.{arith}
-use borrow.Author.Needs.{needs}
-use borrow.Author.Tests.{eq-eqb, ne-eqb}
-use lib.ListN.{length, getD}
-use Rattle.mode_s.specs.Avr.{avrText}
+use lib.ListN.{length}
 use Rattle.search.specs.declared.Answer.{Answer}
-use Rattle.listing.specs.Fields.{decimalIn, decimal, floatText, addressText, repairsText, slicerText}
-use Rattle.listing.specs.Lines.{line, refusedLine, noneLine, foundLine, windowLine}
+use Rattle.search.specs.Kinds.{long, short}
+use Rattle.listing.specs.Lines.{windowLine, windowLines}
 use Rattle.listing.specs.Determines.{Stored, SameSaid, LineDetermines}
-use Rattle.listing.proofs.Split.{Aboves, line-same}
-use Rattle.listing.proofs.Visible.{digits-visible, float-visible, avr-visible, address-visible, repairs-visible, slicer-visible}
-use Rattle.listing.proofs.Decoded.{decode-stored}
-use Rattle.listing.proofs.Back.{written, decimal-back, decimal-same, avr-same, float-same, repairs-same, slicer-same}
+use Rattle.listing.proofs.Split.{two-same, two-not-one}
+use Rattle.listing.proofs.Same.{silent, same-line, window-ended}
+use Rattle.listing.proofs.Windows.{line-found, line-refused, two-searches}
+use Rattle.listing.proofs.Decoded.{small-kind, Kept, decode-kept, unsaid, Said, decodes-said}
 
--- ---- the fields of a window's line, by its number
+-- a short answer of which nothing is said has no message; it is refused if the long one is
+unsaid-not : (n : ℕ) → unsaid n ≡ 0 → ⊥
+unsaid-not zero e = omega arith
+unsaid-not (suc zero) e = omega arith
+unsaid-not (suc (suc n)) e = omega arith
 
-abbrev wordNone : List ℕ
-wordNone = 0x6E ∷ 0x6F ∷ 0x6E ∷ 0x65 ∷ []
+unsaid-few : (n : ℕ) → unsaid n ≤ 1 → n ≤ 1
+unsaid-few zero h = omega arith
+unsaid-few (suc zero) h = omega arith
+unsaid-few (suc (suc n)) h = h
 
-abbrev wordRefused : List ℕ
-wordRefused = 0x72 ∷ 0x65 ∷ 0x66 ∷ 0x75 ∷ 0x73 ∷ 0x65 ∷ 0x64 ∷ []
+-- ---- the lines of each form
 
-abbrev opening : ℕ → ℕ → List ℕ
-opening zero k = decimal k
-opening (suc zero) k = decimal k
-opening (suc (suc n)) k = wordRefused
+module _ (k : ℕ) (a b : Answer) where
+  long-said : b .number ≡ unsaid (a .number) → windowLines k a b ≡ windowLine k a
+  long-said e = go (a .number) refl
+    where
+      go : (n : ℕ) → a .number ≡ n → windowLines k a b ≡ windowLine k a
+      go zero q = two-searches k a b .long-alone (e ∙ ap unsaid q)
+      go (suc zero) q = two-searches k a b .long-alone (e ∙ ap unsaid q)
+      go (suc (suc n)) q = two-searches k a b .refused (omega arith) ∙ sym (line-refused k a (omega arith))
 
-abbrev others : ℕ → Answer → List (List ℕ)
-others zero a =
-    decimal (a .index)
-    ∷ floatText (a .fraction)
-    ∷ avrText (a .message)
-    ∷ addressText (a .message)
-    ∷ repairsText (a .repairs)
-    ∷ slicerText (a .slicer)
-    ∷ floatText (a .cn0)
-    ∷ []
-others (suc zero) a = wordNone ∷ []
-others (suc (suc n)) a = decimal (suc (suc n)) ∷ []
+  both-said : a .number ≡ 0 → b .number ≡ 0 → windowLines k a b ≡ windowLine k a ++ windowLine k b
+  both-said p q = two-searches k a b .both p q ∙ rw (line-found k a p, line-found k b q)
 
-line-said : (n k : ℕ) (a : Answer) → a .number ≡ n → windowLine k a ≡ line (opening n k ∷ others n a)
-unfolding windowLine foundLine noneLine refusedLine
-line-said zero k a e = rw (eq-eqb (a .number) 0 e)
-line-said (suc zero) k a e = rw (ne-eqb (a .number) 0 (λ q. omega arith), eq-eqb (a .number) 1 e)
-line-said (suc (suc n)) k a e = rw (ne-eqb (a .number) 0 (λ q. omega arith), ne-eqb (a .number) 1 (λ q. omega arith), e)
+-- ---- two windows, with the answers a and b, c and d
 
-visible : (n k : ℕ) (a : Answer) → Aboves 0x20 (opening n k ∷ others n a)
-visible zero k a = (
-  digits-visible k,
-  (
-    digits-visible (a .index),
-    (
-      float-visible (a .fraction),
-      (
-        avr-visible (a .message),
-        (address-visible (a .message), (repairs-visible (a .repairs), (slicer-visible (a .slicer), (float-visible (a .cn0), tt)))),
-      ),
-    ),
-  ),
-)
-visible (suc zero) k a = (digits-visible k, (search needs, tt))
-visible (suc (suc n)) k a = (search needs, (digits-visible (suc (suc n)), tt))
+module _
+    (k l : ℕ) (a b c d : Answer) (K : k < 2 ^ 64) (L : l < 2 ^ 64)
+    (A : Kept long a) (B : Kept short b) (C : Kept long c) (D : Kept short d) where
+  abbrev Same : Type 0
+  Same = SameSaid k l a c × SameSaid k l b d
 
--- the word of a refusal is no number: the one that its bytes would write has other digits
-not-refused : (k : ℕ) → k < 2 ^ 64 → decimal k ≡ wordRefused → ⊥
-unfolding decimal decimalIn
-not-refused k h e =
-    let w : k ≡ written wordRefused = sym (decimal-back k h) ∙ ap written e in
-    omega (arith, ap (λ (t : List ℕ). getD t 0 0) (sym (ap decimal w) ∙ e))
+  one : {x y : Answer} → Stored x → Stored y → windowLines k a b ≡ windowLine k x → windowLines l c d ≡ windowLine l y
+      → windowLines k a b ≡ windowLines l c d → SameSaid k l x y
+  one s t p q e = same-line k l _ _ K L s t (sym p ∙ e ∙ q)
 
-module _ (k l : ℕ) (a b : Answer) (K : k < 2 ^ 64) (L : l < 2 ^ 64) (A : Stored a) (B : Stored b) where
-  -- where there is no message, nothing is said of one
-  silent : (a .number ≡ 0 → ⊥) → a .number ≡ b .number → (a .number ≤ 1 → k ≡ l) → SameSaid k l a b
-  silent none e w =
-      record {
-        number = e;
-        window = w;
-        message = λ z. absurd (none z);
-        repairs = λ z. absurd (none z);
-        slicer = λ z. absurd (none z);
-        index = λ z. absurd (none z);
-        fraction = λ z. absurd (none z);
-        cn0 = λ z. absurd (none z);
-      }
+  -- a long message is none of the short ones
+  no-mix : {x y : Answer} → Kept long x → Kept short y → x .message ≡ y .message → ⊥
+  unfolding long short
+  no-mix x y e = omega (arith, x .size, y .size, ap length e)
 
-  said : (m n : ℕ) → a .number ≡ m → b .number ≡ n → opening m k ∷ others m a ≡ opening n l ∷ others n b → SameSaid k l a b
-  said zero zero p q e =
-      let at : (i : ℕ) → getD (opening zero k ∷ others zero a) i [] ≡ getD (opening zero l ∷ others zero b) i [] = λ i. ap (λ (fs : List (List ℕ)). getD fs i []) e in
-      record {
-        number = p ∙ sym q;
-        window = λ _. decimal-same k l K L (at 0);
-        message = λ _. avr-same (a .message) (b .message) (A .message) (B .message) (at 3);
-        repairs = λ _. repairs-same (a .repairs) (b .repairs) (A .repairs) (B .repairs) (at 5);
-        slicer = λ _. slicer-same (a .slicer) (b .slicer) (at 6);
-        index = λ _. decimal-same (a .index) (b .index) (A .index) (B .index) (at 1);
-        fraction = λ _. float-same (a .fraction) (b .fraction) (A .fraction) (B .fraction) (at 2);
-        cn0 = λ _. float-same (a .cn0) (b .cn0) (A .cn0) (B .cn0) (at 7);
-      }
-  said (suc zero) (suc zero) p q e = silent (λ z. omega arith) (p ∙ sym q) (λ _. decimal-same k l K L (head-eq-of-cons-eq e))
-  said (suc (suc m)) (suc (suc n)) p q e =
-      let h = A .number in
-      let i = B .number in
-      silent (λ z. omega arith)
-      (p ∙ decimal-same (suc (suc m)) (suc (suc n)) (omega arith) (omega arith) (head-eq-of-cons-eq (tail-eq-of-cons-eq e)) ∙ sym q)
-      (λ z. absurd (omega arith))
-  said zero (suc zero) p q e = absurd (omega (arith, ap length e))
-  said zero (suc (suc n)) p q e = absurd (omega (arith, ap length e))
-  said (suc zero) zero p q e = absurd (omega (arith, ap length e))
-  said (suc (suc m)) zero p q e = absurd (omega (arith, ap length e))
-  said (suc zero) (suc (suc n)) p q e = absurd (not-refused k K (head-eq-of-cons-eq e))
-  said (suc (suc m)) (suc zero) p q e = absurd (not-refused l L (sym (head-eq-of-cons-eq e)))
-
-same-line : (k l : ℕ) (a b : Answer) → k < 2 ^ 64 → l < 2 ^ 64 → Stored a → Stored b → windowLine k a ≡ windowLine l b → SameSaid k l a b
-same-line k l a b K L A B e =
-    said k l a b K L A B (a .number) (b .number) refl refl
-    (line-same _ _ _ _ (visible (a .number) k a) (visible (b .number) l b) (sym (line-said (a .number) k a refl) ∙ e ∙ line-said (b .number) l b refl))
+  said-same : Said a b → Said c d → windowLines k a b ≡ windowLines l c d → Same
+  said-same (inl p) (inl q) e =
+      let s = one (A .stored) (C .stored) (long-said k a b p) (long-said l c d q) e in (
+        s,
+        silent k l b d (λ z. unsaid-not (a .number) (sym p ∙ z)) (p ∙ ap unsaid (s .number) ∙ sym q)
+            (λ h. s .window (unsaid-few (a .number) (subst (λ (n : ℕ). n ≤ 1) p h))),
+      )
+  said-same (inl p) (inr (inl q)) e =
+      let s = one (A .stored) (D .stored) (long-said k a b p) (two-searches l c d .short-alone (q .0)) e in
+      absurd (no-mix A D (s .message (s .number ∙ q .1)))
+  said-same (inl p) (inr (inr q)) e =
+      absurd (two-not-one (window-ended l c) (window-ended l d) (window-ended k a) (sym (both-said l c d (q .0) (q .1)) ∙ sym e ∙ long-said k a b p))
+  said-same (inr (inl p)) (inl q) e =
+      let s = one (B .stored) (C .stored) (two-searches k a b .short-alone (p .0)) (long-said l c d q) e in
+      absurd (no-mix C B (sym (s .message (p .1))))
+  said-same (inr (inl p)) (inr (inl q)) e =
+      let s = one (B .stored) (D .stored) (two-searches k a b .short-alone (p .0)) (two-searches l c d .short-alone (q .0)) e in
+      (silent k l a c (λ z. omega arith) (p .0 ∙ sym (q .0)) (λ h. s .window (omega arith)), s)
+  said-same (inr (inl p)) (inr (inr q)) e =
+      absurd (two-not-one (window-ended l c) (window-ended l d) (window-ended k b) (sym (both-said l c d (q .0) (q .1)) ∙ sym e ∙ two-searches k a b .short-alone (p .0)))
+  said-same (inr (inr p)) (inl q) e =
+      absurd (two-not-one (window-ended k a) (window-ended k b) (window-ended l c) (sym (both-said k a b (p .0) (p .1)) ∙ e ∙ long-said l c d q))
+  said-same (inr (inr p)) (inr (inl q)) e =
+      absurd (two-not-one (window-ended k a) (window-ended k b) (window-ended l d) (sym (both-said k a b (p .0) (p .1)) ∙ e ∙ two-searches l c d .short-alone (q .0)))
+  said-same (inr (inr p)) (inr (inr q)) e =
+      let s = two-same (window-ended k a) (window-ended k b) (window-ended l c) (window-ended l d) (sym (both-said k a b (p .0) (p .1)) ∙ e ∙ both-said l c d (q .0) (q .1)) in
+      (same-line k l a c K L (A .stored) (C .stored) (s .0), same-line k l b d K L (B .stored) (D .stored) (s .1))
 
 pub line-determines : LineDetermines
 line-determines =
     record {
       same = same-line;
-      decoded = λ k l samples others s t i j K L e. same-line k l _ _ K L (decode-stored samples s i) (decode-stored others t j) e;
+      decoded = λ κ ι k l samples others s t i j p q K L e.
+          same-line k l _ _ K L (decode-kept κ (small-kind κ p) samples s i .stored) (decode-kept ι (small-kind ι q) others t j .stored) e;
+      both = λ k l samples others s t i j K L e.
+          said-same k l _ _ _ _ K L (decode-kept long (small-kind long (inl refl)) samples s i) (decode-kept short (small-kind short (inr refl)) samples s i)
+          (decode-kept long (small-kind long (inl refl)) others t j) (decode-kept short (small-kind short (inr refl)) others t j)
+          (decodes-said samples s i) (decodes-said others t j) e;
     }

@@ -1,13 +1,16 @@
 -- Digits one after the other.
 -- Assumes nothing.
-use mathlib.Core.Path.{_≡_, sym, ap, _∙_}
+use mathlib.Core.Path.{_≡_, refl, sym, ap, _∙_}
 use mathlib.Core.Bool.{cond}
 use mathlib.Core.List.{List, [], _∷_, _++_}
 use Prim.Native.Nat.{ℕ, zero, suc, _+_, _/_, _%_, _^_, _≤_, _<_}
 use native.Mathlib.Nat.{pow-succ'}
+use native.Mathlib.Numerals.{add-one}
 use native.Mathlib.Omega.{arith}
 use borrow.Author.Tests.{lt-ltb, le-ltb}
 use lib.Dec.{ltb}
+use lib.ListN.{length, getD, drop, drop-of-length-le}
+use lib.Seq.{drop-cons}
 use Rattle.mode_s.specs.Avr.{hexDigit, hexText}
 use Rattle.listing.specs.declared.Text.{Text}
 use Rattle.listing.specs.Fields.{decimalIn, decimal}
@@ -23,6 +26,17 @@ hex-one t b p q r s = s ∙ rw (q, p, r)
 pub hex-more : (t : Text) (b : ℕ) (bs : List ℕ) {u r : Text} → u ≡ puts t (hexText (b ∷ [])) → r ≡ puts u (hexText bs) → r ≡ puts t (hexText (b ∷ bs))
 unfolding puts hexText
 hex-more t b bs e f = f ∙ ap (λ (v : Text). puts v (hexText bs)) e
+
+-- byte i of some, and those behind it
+pub hex-over : (bytes : List ℕ) (i : ℕ) (t : Text) {u : Text} → i < length bytes → u ≡ puts t (hexText (getD bytes i 0 ∷ []))
+    → puts u (hexText (drop (i + 1) bytes)) ≡ puts t (hexText (drop i bytes))
+hex-over bytes i t h e =
+    hex-more t (getD bytes i 0) (drop (i + 1) bytes) e refl
+    ∙ ap (λ (l : List ℕ). puts t (hexText l)) (rw (add-one i) (sym (drop-cons bytes i 0 h)))
+
+pub hex-over-done : (bytes : List ℕ) (i : ℕ) (t : Text) → length bytes ≤ i → puts t (hexText (drop i bytes)) ≡ t
+unfolding puts hexText
+hex-over-done bytes i t h = ap (λ (l : List ℕ). puts t (hexText l)) (drop-of-length-le bytes h)
 
 -- more places than a number needs change nothing
 decimal-places : (k n : ℕ) → n < 10 ^ suc k → decimalIn (suc (suc k)) n ≡ decimalIn (suc k) n

@@ -3,8 +3,10 @@
 use mathlib.Core.Path.{_≡_, refl}
 use mathlib.Core.Bool.{Bool, true, false, cond}
 use mathlib.Core.List.{List, [], _∷_, _++_}
-use Prim.Native.Nat.{ℕ, zero, suc, _+_, _/_, _%_, _≤_}
+use Prim.Native.Nat.{ℕ, zero, suc, _+_, _*_, _/_, _%_, _^_, _≤_, _<_}
+use native.Mathlib.Nat.{pow-succ'}
 use native.Mathlib.Omega.{arith}
+use borrow.Author.Tests.{ltb-false}
 use lib.Dec.{ltb}
 use lib.ListN.{length, length-append}
 use lib.Ieee.{Float}
@@ -19,6 +21,7 @@ use Rattle.mode_s.proofs.Text.{length-avr}
 use Rattle.search.specs.declared.Answer.{Answer}
 use Rattle.listing.specs.Fields.{decimalIn, decimal, hexWord, floatText, addressDigits, marked, addressText, repairsText, slicerText}
 use Rattle.listing.specs.Lines.{line, headLine, refusedLine, noneLine, foundLine}
+use Rattle.listing.specs.Determines.{InBytes}
 
 decimal-in : (places n : ℕ) → length (decimalIn places n) ≤ places
 unfolding decimalIn
@@ -33,6 +36,23 @@ decimal-in (suc places) n = go (ltb n 10) (decimal-in places (n / 10))
 decimal-short : (n : ℕ) → length (decimal n) ≤ 20
 unfolding decimal
 decimal-short n = decimal-in 20 n
+
+-- a number of few digits
+decimal-few : (places digits n : ℕ) → n < 10 ^ suc digits → length (decimalIn places n) ≤ suc digits
+unfolding decimalIn
+decimal-few zero digits n h = omega arith
+decimal-few (suc places) digits n h = go (ltb n 10) refl digits h (λ d. decimal-few places d (n / 10))
+  where
+    go : (b : Bool) → ltb n 10 ≡ b → (d : ℕ) → n < 10 ^ suc d
+        → ((e : ℕ) → n / 10 < 10 ^ suc e → length (decimalIn places (n / 10)) ≤ suc e)
+        → length (cond b ((48 + n) ∷ []) (decimalIn places (n / 10) ++ ((48 + n % 10) ∷ []))) ≤ suc d
+    go true e d k f = omega arith
+    go false e zero k f = absurd (omega (arith, ltb-false n 10 e))
+    go false e (suc d) k f = simp length-append (omega (arith, f d (omega (arith, pow-succ' 10 (suc d)))))
+
+decimal-byte : (n : ℕ) → n < 256 → length (decimal n) ≤ 3
+unfolding decimal
+decimal-byte n h = decimal-few 20 2 n (omega arith)
 
 float-long : (x : Float) → length (floatText x) ≡ 8
 unfolding floatText hexWord hexText
@@ -49,30 +69,31 @@ address-short : (message : List ℕ) → length (addressText message) ≤ 7
 unfolding addressText addressDigits hexText
 address-short message = marked-short _ _
 
-repairs-short : (ρ : Repairs) → length (repairsText ρ) ≤ 43
+pub repairs-short : (ρ : Repairs) → InBytes ρ → length (repairsText ρ) ≤ 9
 unfolding repairsText
-repairs-short None = omega arith
-repairs-short (One j) = omega (arith, decimal-short j)
-repairs-short (Two j k) = simp length-append (omega (arith, decimal-short j, decimal-short k))
+repairs-short None h = omega arith
+repairs-short (One j) h = omega (arith, decimal-byte j h)
+repairs-short (Two j k) h = simp length-append (omega (arith, decimal-byte j (h .0), decimal-byte k (h .1)))
 
 slicer-long : (s : Slicer) → length (slicerText s) ≡ 1
 unfolding slicerText
 slicer-long Coherent = refl
 slicer-long Noncoherent = refl
 
-pub head-short : (n : ℕ) → length (headLine n) ≤ 160
+pub head-short : (n : ℕ) → length (headLine n) ≤ 256
 unfolding headLine line
 head-short n = simp length-append (omega (arith, decimal-short n))
 
-pub refused-short : (n : ℕ) → length (refusedLine n) ≤ 160
+pub refused-short : (n : ℕ) → length (refusedLine n) ≤ 256
 unfolding refusedLine line
 refused-short n = simp length-append (omega (arith, decimal-short n))
 
-pub none-short : (n : ℕ) → length (noneLine n) ≤ 160
+pub none-short : (n : ℕ) → length (noneLine n) ≤ 256
 unfolding noneLine line
 none-short n = simp length-append (omega (arith, decimal-short n))
 
-pub found-short : (window : ℕ) (a : Answer) → length (a .message) ≡ 14 → length (foundLine window a) ≤ 160
+-- window and index have 20 digits at most, each float 8, an address 7, positions 6; of a message each byte has two
+pub found-short : (window : ℕ) (a : Answer) → length (repairsText (a .repairs)) ≤ 9 → length (foundLine window a) ≤ 2 * length (a .message) + 83
 unfolding foundLine line
 found-short window a h =
     simp length-append
@@ -83,7 +104,11 @@ found-short window a h =
       float-long (a .fraction),
       length-avr (a .message),
       address-short (a .message),
-      repairs-short (a .repairs),
       slicer-long (a .slicer),
       float-long (a .cn0),
     ))
+
+-- the line of a message is longer than `none`
+pub found-longer : (window : ℕ) (a : Answer) → length (noneLine window) < length (foundLine window a)
+unfolding foundLine noneLine line
+found-longer window a = simp length-append (omega (arith, float-long (a .fraction)))

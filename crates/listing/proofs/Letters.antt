@@ -7,7 +7,7 @@ use Prim.Native.Nat.{ℕ, _/_, _%_}
 use native.Mathlib.Omega.{arith}
 use lib.Dec.{eqb}
 use Rattle.lists.proofs.Test.{or-none}
-use Rattle.annex10.specs.Header.{oneOf, capabilities, controls, longHeader}
+use Rattle.annex10.specs.Header.{oneOf, capabilities, controls, longHeader, shortHeader}
 use Rattle.annex10.specs.Address.{byCapability, byControl, addressKind}
 use Rattle.annex10.specs.Repair.{repaired}
 use Rattle.annex10.proofs.Repairing.{head-is}
@@ -31,24 +31,26 @@ no-control code h =
     let (e6, h6) = or-none (eqb code 6) _ h5 in
     rw (e0, e2, e3, e5, e6)
 
-unlisted : (first : ℕ) → longHeader first ≡ false → addressKind first ≡ NoAddress
-unfolding longHeader addressKind
-unlisted first h = let (p, q) = or-none _ _ h in go (eqb (first / 8) 17) (eqb (first / 8) 18) p q
+unlisted : (first : ℕ) → longHeader first ≡ false → shortHeader first ≡ false → addressKind first ≡ NoAddress
+unfolding longHeader shortHeader addressKind
+unlisted first h o = let (p, q) = or-none _ _ h in go (eqb (first / 8) 11) (eqb (first / 8) 17) (eqb (first / 8) 18) o p q
   where
     code : ℕ
     code = first % 8
 
-    go : (s t : Bool) → (s && oneOf capabilities code) ≡ false → (t && oneOf controls code) ≡ false
-        → cond s (byCapability code) (cond t (byControl code) NoAddress) ≡ NoAddress
-    go true t p q = no-capability code p
-    go false true p q = no-control code q
-    go false false p q = refl
+    go : (r s t : Bool) → (r && oneOf capabilities code) ≡ false → (s && oneOf capabilities code) ≡ false → (t && oneOf controls code) ≡ false
+        → cond r (byCapability code) (cond s (byCapability code) (cond t (byControl code) NoAddress)) ≡ NoAddress
+    go true s t o p q = no-capability code o
+    go false true t o p q = no-capability code p
+    go false false true o p q = no-control code q
+    go false false false o p q = refl
 
 pub letters : Letters
 unfolding addressText addressDigits marked byCapability byControl addressKind oneOf
 letters =
     record {
       listed = λ x y z rest. refl;
-      others = λ first rest h. ap (λ (k : AddressKind). marked k (addressDigits (first ∷ rest))) (unlisted first h);
+      listed-short = λ x y z rest. refl;
+      others = λ first rest h o. ap (λ (k : AddressKind). marked k (addressDigits (first ∷ rest))) (unlisted first h o);
       after = λ first rest ρ. ap (λ (b : ℕ). marked (addressKind b) (addressDigits (repaired (first ∷ rest) ρ))) (head-is (first ∷ rest) ρ (omega arith));
     }

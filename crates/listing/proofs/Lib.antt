@@ -1,12 +1,13 @@
 pub mod Puts
 pub mod Digits
 pub mod Lengths
-pub mod Avr
+pub mod Windows
 pub mod Worked
 pub mod Letters
 pub mod Split
 pub mod Visible
 pub mod Back
+pub mod Same
 pub mod Decoded
 pub mod Determines
 pub mod Typed

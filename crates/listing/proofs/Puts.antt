@@ -37,10 +37,10 @@ unfolding line
 field-last t f e q = puts-both t f (0x0A ∷ []) e (puts-one _ 0x0A q)
 
 -- while there is room, a byte is put behind what stands there
-put-more : (xs : List ℕ) (b : ℕ) → length xs < 160 → putOf (textOf xs) b ≡ textOf (xs ++ (b ∷ []))
+put-more : (xs : List ℕ) (b : ℕ) → length xs < 256 → putOf (textOf xs) b ≡ textOf (xs ++ (b ∷ []))
 unfolding putOf textOf
 put-more xs b h =
-    rw (lt-leb 160 (length xs) h) (room (160 - length xs) (160 - length (xs ++ (b ∷ []))) (simp length-append (omega arith)))
+    rw (lt-leb 256 (length xs) h) (room (256 - length xs) (256 - length (xs ++ (b ∷ []))) (simp length-append (omega arith)))
   where
     stored : (m n : ℕ) → m ≡ suc n → set (xs ++ replicate m 0) (length xs) b ≡ (xs ++ (b ∷ [])) ++ replicate n 0
     stored m n e =
@@ -53,7 +53,7 @@ put-more xs b h =
         (record { length = length (xs ++ (b ∷ [])); bytes = (xs ++ (b ∷ [])) ++ replicate n 0 })
     room m n e = rw (stored m n e, length-append xs (b ∷ []))
 
-puts-text : (xs ys : List ℕ) → length xs + length ys ≤ 160 → puts (textOf xs) ys ≡ textOf (xs ++ ys)
+puts-text : (xs ys : List ℕ) → length xs + length ys ≤ 256 → puts (textOf xs) ys ≡ textOf (xs ++ ys)
 unfolding puts
 puts-text xs [] h = ap textOf (sym (append-nil xs))
 puts-text xs (y ∷ ys) h =
@@ -62,5 +62,5 @@ puts-text xs (y ∷ ys) h =
     ∙ ap textOf (append-snoc xs y ys)
 
 -- put on an empty text, a line for which there is room is the text
-pub finished : (bytes : List ℕ) {e r : Text} → length bytes ≤ 160 → e ≡ textOf [] → r ≡ puts e bytes → r ≡ textOf bytes
+pub finished : (bytes : List ℕ) {e r : Text} → length bytes ≤ 256 → e ≡ textOf [] → r ≡ puts e bytes → r ≡ textOf bytes
 finished bytes h e q = q ∙ ap (λ (t : Text). puts t bytes) e ∙ puts-text [] bytes (omega arith)

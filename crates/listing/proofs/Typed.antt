@@ -1,4 +1,5 @@
--- Every value of the type `Answer` is stored: what ties a value to its bytes in memory has the widths of its fields.
+-- Every value of the type `Answer` is stored, and every one of `ShortAnswer`: what ties a value to its bytes in memory has the widths of
+-- its fields.
 -- Assumes nothing.
 use mathlib.Core.List.{List, [], _∷_, map}
 use Prim.Native.Nat.{ℕ, zero, suc, _<_}
@@ -14,7 +15,10 @@ use Rattle.annex10.specs.declared.Repairs.{Repairs}
 use Rattle.annex10.specs.declared.Repairs.the-variants.{None, One, Two}
 use Rattle.annex10.proofs.Repairs as repairs
 use Rattle.search.specs.declared.Answer.{Answer}
-use Rattle.search.proofs.Answer.{the-row}
+use Rattle.search.specs.declared.ShortAnswer.{ShortAnswer}
+use Rattle.search.specs.Short.{ofShort}
+use Rattle.search.proofs.Answer as answer
+use Rattle.search.proofs.ShortAnswer as short-answer
 use Rattle.listing.specs.Determines.{InBytes, Stored}
 
 bytes : (xs : List ℕ) (us : List Val) → shadow (each ℕ (u8 .own) (map (λ (v : ℕ). v) xs) us) → (k : ℕ) → getD xs k 0 < 256
@@ -28,8 +32,20 @@ positions None vs p = tt
 positions (One j) vs p = p .1 .1 .1 .1 .0 .1
 positions (Two j k) vs p = let q = p .1 .1 .1 .1 in (q .0 .1, q .1 .0 .1)
 
-pub stored : (a : Answer) (vs : List Val) → Is the-row a vs → Stored a
+pub stored : (a : Answer) (vs : List Val) → Is answer.the-row a vs → Stored a
 stored a vs p =
+    let q = p .1 .1 in
+    record {
+      number = q .0 .1;
+      message = bytes (a .message) (q .1 .1 .0 .0) (q .1 .1 .0 .1 .1);
+      repairs = positions (a .repairs) _ (q .1 .1 .1 .0);
+      cn0 = passes _ (q .1 .1 .1 .1 .1 .0 .1);
+      index = q .1 .1 .1 .1 .1 .1 .0 .1;
+      fraction = passes _ (q .1 .1 .1 .1 .1 .1 .1 .0 .1);
+    }
+
+pub stored-short : (a : ShortAnswer) (vs : List Val) → Is short-answer.the-row a vs → Stored (ofShort a)
+stored-short a vs p =
     let q = p .1 .1 in
     record {
       number = q .0 .1;

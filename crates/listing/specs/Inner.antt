@@ -5,12 +5,31 @@ use mathlib.Core.List.{List, foldl}
 use Prim.Native.Nat.{ℕ, _+_}
 use lib.Dec.{leb}
 use lib.ListN.{set}
+use lib.Ieee.{Float}
+use Rattle.annex10.specs.declared.Repairs.{Repairs}
+use Rattle.place.specs.declared.Slicer.{Slicer}
+use Rattle.search.specs.declared.Answer.{Answer}
+use Rattle.search.specs.Answers.{nowhere}
 use Rattle.listing.specs.declared.Text.{Text}
 
 -- one byte more; a full text stays as it is
 unfoldable pub putOf : Text → ℕ → Text
-putOf t b = cond (leb 160 (t .length)) t (record { length = t .length + 1; bytes = set (t .bytes) (t .length) b })
+putOf t b = cond (leb 256 (t .length)) t (record { length = t .length + 1; bytes = set (t .bytes) (t .length) b })
 
 -- all of some bytes, one after the other
 unfoldable pub puts : Text → List ℕ → Text
 puts t bytes = foldl putOf t bytes
+
+-- an answer with the fields that a line has; of the place it says nothing
+abbrev pub fields : ℕ → Float → List ℕ → Repairs → Slicer → Float → Answer
+fields index fraction message repairs slicer cn0 =
+    record {
+      number = 0;
+      place = nowhere;
+      message = message;
+      repairs = repairs;
+      slicer = slicer;
+      cn0 = cn0;
+      index = index;
+      fraction = fraction;
+    }

@@ -1,9 +1,9 @@
 -- The lines of a listing.
 -- Assumes nothing.
-use mathlib.Core.Bool.{cond}
+use mathlib.Core.Bool.{cond, _&&_}
 use mathlib.Core.List.{List, [], _∷_, _++_}
 use Prim.Native.Nat.{ℕ, _-_}
-use lib.Dec.{eqb}
+use lib.Dec.{eqb, leb}
 use lib.ListN.{length, replicate}
 use Rattle.mode_s.specs.Avr.{avrText}
 use Rattle.search.specs.declared.Answer.{Answer}
@@ -42,10 +42,22 @@ foundLine window a =
     ∷ floatText (a .cn0)
     ∷ [])
 
--- what is said of a window: number 0 is a message, 1 is none, any other a refusal
+-- what one search says of a window: number 0 is a message, 1 is none, any other a refusal
 unfoldable pub windowLine : ℕ → Answer → List ℕ
 windowLine window a = cond (eqb (a .number) 0) (foundLine window a) (cond (eqb (a .number) 1) (noneLine window) (refusedLine (a .number)))
 
--- a line and its length, with zeros behind it
+-- the line of a message, if there is one
+unfoldable pub messageLine : ℕ → Answer → List ℕ
+messageLine window a = cond (eqb (a .number) 0) (foundLine window a) []
+
+-- WHAT IS SAID OF A WINDOW, by the answers of the long and the short search: a refusal, once; `none` where both found nothing; else the
+-- line of the long message, if there is one, and behind it that of the short one
+unfoldable pub windowLines : ℕ → Answer → Answer → List ℕ
+windowLines window a b =
+    cond (leb 2 (a .number)) (refusedLine (a .number))
+    (cond (leb 2 (b .number)) (refusedLine (b .number))
+    (cond (eqb (a .number) 1 && eqb (b .number) 1) (noneLine window) (messageLine window a ++ messageLine window b)))
+
+-- some bytes and how many they are, with zeros behind them
 unfoldable pub textOf : List ℕ → Text
-textOf bytes = record { length = length bytes; bytes = bytes ++ replicate (160 - length bytes) 0 }
+textOf bytes = record { length = length bytes; bytes = bytes ++ replicate (256 - length bytes) 0 }

@@ -2,17 +2,18 @@
 use crate::Text;
 use crate::put::put;
 use crate::put::put_all;
+use crate::put::put_bytes;
 use crate::put::put_decimal;
 use crate::put::put_hex;
 use crate::put::put_word;
 use annex10::AddressKind;
 use annex10::Repairs;
-use mode_s::avr::format_avr;
 use mode_s::header::address_kind;
 use place::Slicer;
 use words::float::bits_of;
 ghost use mathlib.Core.Path.{_≡_};
 ghost use mathlib.Core.List.{_∷_};
+ghost use Prim.Native.Nat.{_≤_};
 ghost use lib.ListN.{length};
 ghost use Rattle.mode_s.specs.Avr.{avrText};
 ghost use Rattle.listing.specs.Fields.{decimal, floatText, addressDigits, addressText, repairsText, slicerText};
@@ -25,31 +26,26 @@ pub fn put_float(t: Text, x: f32) -> Text
     put_word(t, bits_of(x))
 }
 
-fn put_line(t: Text, line: &[u8; 30]) -> Text
-    ensures { λ r. ⌜ r ≡ puts t (now (line .entry)) ⌝ }
+// `*`, the digits, `;`.
+pub fn put_avr(t: Text, message: &[u8]) -> Text
+    ensures { λ r. ⌜ r ≡ puts t (avrText (now (message .entry))) ⌝ }
 {
-    put_all(t, line)
-}
-
-pub fn put_avr(t: Text, message: [u8; 14]) -> Text
-    ensures { λ r. ⌜ (r ≡ puts t (avrText message)) × (length message ≡ 14) ⌝ }
-{
-    let mut line = [0u8; 30];
-    format_avr(&message, &mut line);
-    put_line(t, &line)
+    put(put_bytes(put(t, b'*'), message), b';')
 }
 
 // A letter and bytes 1 to 3.
-fn put_marked(t: Text, letter: u8, message: [u8; 14]) -> Text
-    ensures { λ r. ⌜ r ≡ puts t (letter ∷ addressDigits message) ⌝ }
+fn put_marked(t: Text, letter: u8, message: &[u8]) -> Text
+    requires { ⌜ 4 ≤ length (now message) ⌝ }
+    ensures { λ r. ⌜ r ≡ puts t (letter ∷ addressDigits (now (message .entry))) ⌝ }
 {
     let t = put(t, letter);
     put_hex(put_hex(put_hex(t, message[1]), message[2]), message[3])
 }
 
 // The kind is that of the message's own first byte: an answer's message is repaired.
-pub fn put_address(t: Text, message: [u8; 14]) -> Text
-    ensures { λ r. ⌜ r ≡ puts t (addressText message) ⌝ }
+pub fn put_address(t: Text, message: &[u8]) -> Text
+    requires { ⌜ 4 ≤ length (now message) ⌝ }
+    ensures { λ r. ⌜ r ≡ puts t (addressText (now (message .entry))) ⌝ }
 {
     match address_kind(message[0]) {
         AddressKind::Icao => put_marked(t, b'I', message),
@@ -67,7 +63,7 @@ fn put_position(t: Text, j: u8) -> Text
 
 // How many, and where.
 pub fn put_repairs(t: Text, repairs: Repairs) -> Text
-    ensures { λ r. ⌜ r ≡ puts t (repairsText repairs) ⌝ }
+    ensures { λ r. ⌜ (r ≡ puts t (repairsText repairs)) × (length (repairsText repairs) ≤ 9) ⌝ }
 {
     match repairs {
         Repairs::None => put(t, b'0'),

@@ -3,8 +3,8 @@ mod fields;
 pub mod lines;
 mod put;
 
-// A line. Of the bytes only the first `length` count; the others are zeros.
+// A line, or the two of a window. Of the bytes only the first `length` count; the others are zeros.
 pub struct Text {
     pub length: usize,
-    pub bytes: [u8; 160],
+    pub bytes: [u8; 256],
 }

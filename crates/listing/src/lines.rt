@@ -9,9 +9,16 @@ use crate::put::empty;
 use crate::put::put;
 use crate::put::put_all;
 use crate::put::put_decimal;
+use annex10::Repairs;
+use place::Slicer;
 use search::Answer;
+use search::ShortAnswer;
 ghost use mathlib.Core.Path.{_≡_};
-ghost use Rattle.listing.specs.Lines.{textOf, headLine, refusedLine, noneLine, foundLine, windowLine};
+ghost use Prim.Native.Nat.{_+_, _*_, _≤_};
+ghost use lib.ListN.{length};
+ghost use Rattle.search.specs.Short.{ofShort};
+ghost use Rattle.listing.specs.Lines.{textOf, headLine, refusedLine, noneLine, foundLine, messageLine, windowLines};
+ghost use Rattle.listing.specs.Inner.{puts, fields};
 
 // `windows` and how many.
 pub fn head_line(windows: u64) -> Text
@@ -36,31 +43,88 @@ fn none_line(window: u64) -> Text
     put(put_all(t, b"none"), b'\n')
 }
 
-fn found_line(window: u64, a: Answer) -> Text
-    ensures { λ r. ⌜ r ≡ textOf (foundLine window a) ⌝ }
+// One line more: that of a message of 7 or 14 bytes.
+fn put_message(
+    t: Text,
+    window: u64,
+    index: u64,
+    fraction: f32,
+    message: &[u8],
+    repairs: Repairs,
+    slicer: Slicer,
+    cn0: f32,
+) -> Text
+    requires { ⌜ 4 ≤ length (now message) ⌝ }
+    ensures { λ r.
+        let l = foundLine window (fields index fraction (now (message .entry)) repairs slicer cn0) in
+        ⌜ (r ≡ puts t l) × (length l ≤ 2 * length (now (message .entry)) + 83) ⌝ }
 {
-    let message = a.message;
-    let repairs = a.repairs;
-    let slicer = a.slicer;
-    let t = put(put_decimal(empty(), window), b' ');
-    let t = put(put_decimal(t, a.index), b' ');
-    let t = put(put_float(t, a.fraction), b' ');
+    let t = put(put_decimal(t, window), b' ');
+    let t = put(put_decimal(t, index), b' ');
+    let t = put(put_float(t, fraction), b' ');
     let t = put(put_avr(t, message), b' ');
     let t = put(put_address(t, message), b' ');
     let t = put(put_repairs(t, repairs), b' ');
     let t = put(put_slicer(t, slicer), b' ');
-    put(put_float(t, a.cn0), b'\n')
+    put(put_float(t, cn0), b'\n')
 }
 
-// What is said of a window: its message, `none`, or a refusal.
-pub fn window_line(window: u64, a: Answer) -> Text
-    ensures { λ r. ⌜ r ≡ textOf (windowLine window a) ⌝ }
+// The line of a long message, if there is one.
+fn put_long(t: Text, window: u64, long: Answer) -> Text
+    ensures { λ r. ⌜ (r ≡ puts t (messageLine window long)) × (length (messageLine window long) ≤ 111) ⌝ }
 {
-    if a.number == 0 {
-        return found_line(window, a);
+    if long.number != 0 {
+        return t;
     }
-    if a.number == 1 {
+    let message = long.message;
+    let repairs = long.repairs;
+    let slicer = long.slicer;
+    put_message(
+        t,
+        window,
+        long.index,
+        long.fraction,
+        &message,
+        repairs,
+        slicer,
+        long.cn0,
+    )
+}
+
+// The line of a short one, if there is one.
+fn put_short(t: Text, window: u64, short: ShortAnswer) -> Text
+    ensures { λ r. ⌜ (r ≡ puts t (messageLine window (ofShort short))) × (length (messageLine window (ofShort short)) ≤ 97) ⌝ }
+{
+    if short.number != 0 {
+        return t;
+    }
+    let message = short.message;
+    let repairs = short.repairs;
+    let slicer = short.slicer;
+    put_message(
+        t,
+        window,
+        short.index,
+        short.fraction,
+        &message,
+        repairs,
+        slicer,
+        short.cn0,
+    )
+}
+
+// What is said of a window: a refusal, `none`, or the messages, the long one first.
+pub fn window_lines(window: u64, long: Answer, short: ShortAnswer) -> Text
+    ensures { λ r. ⌜ r ≡ textOf (windowLines window long (ofShort short)) ⌝ }
+{
+    if long.number >= 2 {
+        return refused_line(long.number as u64);
+    }
+    if short.number >= 2 {
+        return refused_line(short.number as u64);
+    }
+    if long.number == 1 && short.number == 1 {
         return none_line(window);
     }
-    refused_line(a.number as u64)
+    put_short(put_long(empty(), window, long), window, short)
 }

@@ -1,4 +1,4 @@
-// A text grows at its end. A full one stays as it is, so that nothing here can fail; no line is that long.
+// A text grows at its end. A full one stays as it is, so that nothing here can fail; no lines are that long.
 use crate::Text;
 use mode_s::avr::high_digit;
 use mode_s::avr::low_digit;
@@ -14,7 +14,7 @@ pub fn empty() -> Text
 {
     Text {
         length: 0,
-        bytes: [0u8; 160],
+        bytes: [0u8; 256],
     }
 }
 
@@ -22,7 +22,7 @@ pub fn put(t: Text, b: u8) -> Text
     ensures { λ r. ⌜ r ≡ putOf t b ⌝ }
 {
     let at = t.length;
-    if at >= 160 {
+    if at >= 256 {
         return t;
     }
     let mut bytes = t.bytes;
@@ -50,6 +50,19 @@ pub fn put_hex(t: Text, b: u8) -> Text
     ensures { λ r. ⌜ r ≡ puts t (hexText (b ∷ [])) ⌝ }
 {
     put(put(t, high_digit(b)), low_digit(b))
+}
+
+// Each byte as two hex digits.
+pub fn put_bytes(t: Text, bytes: &[u8]) -> Text
+    ensures { λ r. ⌜ r ≡ puts t (hexText (now (bytes .entry))) ⌝ }
+{
+    let mut text = t;
+    let mut i = 0;
+    while i < bytes.len() {
+        text = put_hex(text, bytes[i]);
+        i += 1;
+    }
+    text
 }
 
 // Eight hex digits.

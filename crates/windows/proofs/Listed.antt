@@ -24,7 +24,7 @@ use Rattle.windows.specs.Printed.{takenOf, brokenOff, shown, shortStep, 
 -- the text of a line shows the line
 shown-text : (bytes : List ℕ) → shown (textOf bytes) ≡ bytes
 unfolding shown textOf
-shown-text bytes = take-append-seam bytes (replicate (160 - length bytes) 0)
+shown-text bytes = take-append-seam bytes (replicate (256 - length bytes) 0)
 
 texts-append : (a b : List Line) → texts (a ++ b) ≡ texts a ++ texts b
 unfolding texts

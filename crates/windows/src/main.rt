@@ -73,7 +73,7 @@ fn step(state: State) -> Step
     step_in(state, &mut space)
 }
 
-// The first bytes. A line is never longer than the text that holds it.
+// The first bytes. What is said is never longer than the text that holds it.
 fn write_first(bytes: &[u8], length: usize) {
     if length <= bytes.len() {
         io::write_all(STDOUT_FILENO, &bytes[..length]);

@@ -20,8 +20,8 @@ known : (t : Text) (message : List ℕ) (k : AddressKind) {told : AddressKind} {
 unfolding addressText
 known t message k e q h = h ∙ ap (λ (x : AddressKind). puts t (marked x (addressDigits message))) (sym e ∙ q)
 
-array-read-address-kind : tie.Need-array-read-address-kind
-array-read-address-kind c = search needs
+shared-slice-read-address-kind : tie.Need-shared-slice-read-address-kind
+shared-slice-read-address-kind c = search needs
 
 address-kind-requires : tie.Need-address-kind-requires
 address-kind-requires c κs = search needs
@@ -70,7 +70,7 @@ pub put-address-spec : {M : Type 1} → statement M
 put-address-spec =
     tie.close
     (tie.spec
-    array-read-address-kind
+    shared-slice-read-address-kind
     address-kind-requires
     enum-told
     put-marked-requires

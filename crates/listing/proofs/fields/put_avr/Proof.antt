@@ -1,33 +1,23 @@
--- `listing::fields::put_avr` meets its contract: the line of a message of 14 bytes has 30.
+-- `listing::fields::put_avr` meets its contract: the digits between `*` and `;`.
 -- Assumes nothing.
-use mathlib.Core.Path.{_∙_, ap}
-use Rattle.listing.specs.Inner.{puts}
-use Rattle.listing.proofs.Avr.{avr-done}
+use Rattle.mode_s.specs.Avr.{avrText}
+use Rattle.listing.proofs.Puts.{puts-one, puts-cons, puts-both}
 use borrow.Author.Needs.{needs}
 use Rattle.listing.proofs.fields.put_avr.Statement.{statement}
 use Rattle.listing.proofs.fields.put_avr.Tie as tie
 
-slice-aggregate-format-avr : tie.Need-slice-aggregate-format-avr
-slice-aggregate-format-avr c = search needs
+put-requires : tie.Need-put-requires
+put-requires c κs = search needs
 
-slice-aggregate-format-avr-2 : tie.Need-slice-aggregate-format-avr-2
-slice-aggregate-format-avr-2 c = search needs
+put-bytes-requires : tie.Need-put-bytes-requires
+put-bytes-requires c κs = search needs
 
-format-avr-requires : tie.Need-format-avr-requires
-format-avr-requires c κs = search needs
-
-put-line-requires : tie.Need-put-line-requires
-put-line-requires c κs = search needs
+put-requires-2 : tie.Need-put-requires-2
+put-requires-2 c κs = search needs
 
 returns : tie.Need-returns
-returns c = (c .put-line .ensures ∙ ap (puts _) (avr-done _ _ (search needs) (search needs) (c .before .before .before .format-avr .ensures)), search needs)
+unfolding avrText
+returns c = puts-cons _ _ _ (c .before .before .put .ensures) (puts-both _ _ _ (c .before .put-bytes .ensures) (puts-one _ _ (c .put2 .ensures)))
 
 pub put-avr-spec : {M : Type 1} → statement M
-put-avr-spec =
-    tie.close
-    (tie.spec
-    slice-aggregate-format-avr
-    slice-aggregate-format-avr-2
-    format-avr-requires
-    put-line-requires
-    returns)
+put-avr-spec = tie.close (tie.spec put-requires put-bytes-requires put-requires-2 returns)

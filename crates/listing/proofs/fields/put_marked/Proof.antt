@@ -10,20 +10,20 @@ use Rattle.listing.proofs.fields.put_marked.Tie as tie
 put-requires : tie.Need-put-requires
 put-requires c κs = search needs
 
-array-read-put-hex : tie.Need-array-read-put-hex
-array-read-put-hex c = search needs
+shared-slice-read-put-hex : tie.Need-shared-slice-read-put-hex
+shared-slice-read-put-hex c = search needs
 
 put-hex-requires : tie.Need-put-hex-requires
 put-hex-requires c κs = search needs
 
-array-read-put-hex-2 : tie.Need-array-read-put-hex-2
-array-read-put-hex-2 c = search needs
+shared-slice-read-put-hex-2 : tie.Need-shared-slice-read-put-hex-2
+shared-slice-read-put-hex-2 c = search needs
 
 put-hex-requires-2 : tie.Need-put-hex-requires-2
 put-hex-requires-2 c κs = search needs
 
-array-read-put-hex-3 : tie.Need-array-read-put-hex-3
-array-read-put-hex-3 c = search needs
+shared-slice-read-put-hex-3 : tie.Need-shared-slice-read-put-hex-3
+shared-slice-read-put-hex-3 c = search needs
 
 put-hex-requires-3 : tie.Need-put-hex-requires-3
 put-hex-requires-3 c κs = search needs
@@ -31,18 +31,20 @@ put-hex-requires-3 c κs = search needs
 returns : tie.Need-returns
 unfolding addressDigits
 returns c =
-    let high = c .before .before in
-    puts-cons _ _ _ (high .before .put .ensures) (hex-more _ _ _ (high .put-hex .ensures) (hex-more _ _ _ (c .before .put-hex2 .ensures) (c .put-hex3 .ensures)))
+    let second = c .before .before in
+    let first = second .before .before in
+    puts-cons _ _ _ (first .before .before .put .ensures)
+    (hex-more _ _ _ (first .put-hex .ensures) (hex-more _ _ _ (second .put-hex2 .ensures) (c .put-hex3 .ensures)))
 
 pub put-marked-spec : {M : Type 1} → statement M
 put-marked-spec =
     tie.close
     (tie.spec
     put-requires
-    array-read-put-hex
+    shared-slice-read-put-hex
     put-hex-requires
-    array-read-put-hex-2
+    shared-slice-read-put-hex-2
     put-hex-requires-2
-    array-read-put-hex-3
+    shared-slice-read-put-hex-3
     put-hex-requires-3
     returns)

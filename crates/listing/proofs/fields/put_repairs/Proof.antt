@@ -1,7 +1,9 @@
 -- `listing::fields::put_repairs` meets its contract: the count, and the positions in their order.
 -- Assumes nothing.
 use Rattle.listing.specs.Fields.{repairsText}
+use Rattle.annex10.specs.declared.Repairs.the-variants.{None, One, Two}
 use Rattle.listing.proofs.Puts.{puts-one, puts-cons, puts-both}
+use Rattle.listing.proofs.Lengths.{repairs-short}
 use borrow.Author.Needs.{needs}
 use Rattle.listing.proofs.fields.put_repairs.Statement.{statement}
 use Rattle.listing.proofs.fields.put_repairs.Tie as tie
@@ -44,15 +46,24 @@ put-position-requires-3 c κs = search needs
 
 returns : tie.Need-returns
 unfolding repairsText
-returns c = rw (c .before .enum-told .given .1) (puts-one _ _ (c .put .ensures))
+returns c = rw (c .before .enum-told .given .1) (puts-one _ _ (c .put .ensures), repairs-short None tt)
 
 returns-2 : tie.Need-returns-2
 unfolding repairsText
-returns-2 c = rw (c .before .before .before .before .repairs .given .1) (puts-both _ _ _ (c .before .put-all .ensures) (c .put-position .ensures))
+returns-2 c =
+    rw (c .before .before .before .before .repairs .given .1) (
+      puts-both _ _ _ (c .before .put-all .ensures) (c .put-position .ensures),
+      repairs-short (One _) (search needs),
+    )
 
 returns-3 : tie.Need-returns-3
 unfolding repairsText
-returns-3 c = rw (c .before .before .before .before .before .before .repairs2 .given .1) (puts-both _ _ _ (c .before .before .before .put-all2 .ensures) (puts-both _ _ _ (c .before .before .put-position2 .ensures) (puts-cons _ _ _ (c .before .put2 .ensures) (c .put-position3 .ensures))))
+returns-3 c =
+    rw (c .before .before .before .before .before .before .repairs2 .given .1) (
+      puts-both _ _ _ (c .before .before .before .put-all2 .ensures)
+          (puts-both _ _ _ (c .before .before .put-position2 .ensures) (puts-cons _ _ _ (c .before .put2 .ensures) (c .put-position3 .ensures))),
+      repairs-short (Two _ _) (search needs, search needs),
+    )
 
 pub put-repairs-spec : {M : Type 1} → statement M
 put-repairs-spec =

@@ -3,8 +3,8 @@
 use mathlib.Core.Path.{_∙_, ap}
 use mathlib.Core.List.{List}
 use lib.Ieee.{Float}
-use Rattle.search.specs.Answers.{decodeOf}
-use Rattle.listing.specs.Lines.{windowLine, textOf}
+use Rattle.listing.specs.Lines.{textOf}
+use Rattle.feed.specs.Listing.{windowText}
 use Rattle.windows.proofs.Texts.{floats-done}
 use borrow.Author.Needs.{needs}
 use Rattle.windows.proofs.text.window_text.Statement.{statement}
@@ -23,7 +23,7 @@ returns : tie.Need-returns
 returns c =
     let a = c .before .before .before .before .before .before .args in
     c .decoded .ensures
-    ∙ ap (λ (x : List Float). textOf (windowLine (a .k) (decodeOf x (a .s) (a .index))))
+    ∙ ap (λ (x : List Float). textOf (windowText (a .k) x (a .s) (a .index)))
     (floats-done _ _ (c .before .before .before .before .before .before .pre) (search needs) (c .before .before .before .window-floats .ensures))
 
 pub window-text-spec : {M : Type 1} → statement M

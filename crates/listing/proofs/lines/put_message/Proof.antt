@@ -1,14 +1,13 @@
--- `listing::lines::found_line` meets its contract: eight fields, one after the other.
+-- `listing::lines::put_message` meets its contract: eight fields, one after the other.
 -- Assumes nothing.
+use denote.Ref.{now}
 use Rattle.listing.specs.Lines.{foundLine}
-use Rattle.listing.proofs.Puts.{field-more, field-last, finished}
+use Rattle.listing.specs.Inner.{fields}
+use Rattle.listing.proofs.Puts.{field-more, field-last}
 use Rattle.listing.proofs.Lengths.{found-short}
 use borrow.Author.Needs.{needs}
-use Rattle.listing.proofs.lines.found_line.Statement.{statement}
-use Rattle.listing.proofs.lines.found_line.Tie as tie
-
-empty-requires : tie.Need-empty-requires
-empty-requires c κs = search needs
+use Rattle.listing.proofs.lines.put_message.Statement.{statement}
+use Rattle.listing.proofs.lines.put_message.Tie as tie
 
 put-decimal-requires : tie.Need-put-decimal-requires
 put-decimal-requires c κs = search needs
@@ -68,21 +67,22 @@ returns c =
     let fraction = avr .before .before in
     let index = fraction .before .before in
     let window = index .before .before in
-    finished _ (found-short _ (window .before .before .before .args .a) (avr .put-avr .ensures .1)) (window .before .empty .ensures)
-    (field-more _ _ _ _ (window .put-decimal .ensures) (index .before .put .ensures)
-    (field-more _ _ _ _ (index .put-decimal2 .ensures) (fraction .before .put2 .ensures)
-    (field-more _ _ _ _ (fraction .put-float .ensures) (avr .before .put3 .ensures)
-    (field-more _ _ _ _ (avr .put-avr .ensures .0) (address .before .put4 .ensures)
-    (field-more _ _ _ _ (address .put-address .ensures) (repairs .before .put5 .ensures)
-    (field-more _ _ _ _ (repairs .put-repairs .ensures) (slicer .before .put6 .ensures)
-    (field-more _ _ _ _ (slicer .put-slicer .ensures) (c .before .before .put7 .ensures)
-    (field-last _ _ (c .before .put-float2 .ensures) (c .put8 .ensures)))))))))
+    let a = window .before .before .args in (
+      field-more _ _ _ _ (window .put-decimal .ensures) (index .before .put .ensures)
+          (field-more _ _ _ _ (index .put-decimal2 .ensures) (fraction .before .put2 .ensures)
+          (field-more _ _ _ _ (fraction .put-float .ensures) (avr .before .put3 .ensures)
+          (field-more _ _ _ _ (avr .put-avr .ensures) (address .before .put4 .ensures)
+          (field-more _ _ _ _ (address .put-address .ensures) (repairs .before .put5 .ensures)
+          (field-more _ _ _ _ (repairs .put-repairs .ensures .0) (slicer .before .put6 .ensures)
+          (field-more _ _ _ _ (slicer .put-slicer .ensures) (c .before .before .put7 .ensures)
+          (field-last _ _ (c .before .put-float2 .ensures) (c .put8 .ensures)))))))),
+      found-short (a .window) (fields (a .index) (a .fraction) (now (a .message)) (a .repairs) (a .slicer) (a .cn0)) (repairs .put-repairs .ensures .1),
+    )
 
-pub found-line-spec : {M : Type 1} → statement M
-found-line-spec =
+pub put-message-spec : {M : Type 1} → statement M
+put-message-spec =
     tie.close
     (tie.spec
-    empty-requires
     put-decimal-requires
     put-requires
     put-decimal-requires-2

@@ -19,24 +19,33 @@ static void check(int holds, const char *what, int line) {
 #define CHECK(holds) check(holds, #holds, __LINE__)
 
 static const uint8_t WORKED[14] = {0x88, 0x07, 0x76, 0xAC};
+static const uint8_t SQUITTER[7] = {0x5D, 0x48, 0x40, 0xD6, 0xF8, 0x74, 0x0F};
 static float samples[KHLONGRAE_WINDOW];
 
-/* a pulse in the first half of each bit that is 1, in the second half of each that is 0, from a sample on */
-static void transmit(const uint8_t *message, int from) {
-    memset(samples, 0, sizeof samples);
-    for (int j = 0; j < 112; j++) {
+enum part { REAL, IMAGINARY };
+
+/* a pulse in the first half of each bit that is 1, in the second half of each that is 0, from a sample on: added to what is there */
+static void send(const uint8_t *message, int bytes, int from, enum part part, float amplitude) {
+    for (int j = 0; j < 8 * bytes; j++) {
         int half = (message[j / 8] >> (7 - j % 8) & 1) != 0 ? 0 : 4;
-        for (int k = 0; k < 4; k++) samples[2 * (from + 8 * j + half + k)] = 1.0f;
+        for (int k = 0; k < 4; k++) samples[2 * (from + 8 * j + half + k) + part] += amplitude;
     }
 }
 
-/* the memory that a decode is lent, one element longer than it may be */
+static void silence(void) { memset(samples, 0, sizeof samples); }
+
+static void transmit(const uint8_t *message, int bytes, int from) {
+    silence();
+    send(message, bytes, from, REAL, 1.0f);
+}
+
+/* the memory that a decode is lent, at least one element longer than it may be */
 struct lent {
     uint8_t message[15];
     uint64_t words[9];
     float floats[3];
 };
-static struct lent pattern, lent;
+static struct lent pattern, lent, short_lent;
 
 struct call {
     size_t samples;
@@ -44,32 +53,66 @@ struct call {
     float threshold, second;
     uint32_t distance;
     uint64_t index;
-    size_t message, words, floats;
+    int message, words, floats; /* by how much the memory is longer than it must be */
 };
-static const struct call GOOD = {KHLONGRAE_WINDOW, 2, 67, 71, 8, 128, KHLONGRAE_MESSAGE, KHLONGRAE_WORDS, KHLONGRAE_FLOATS};
+static const struct call GOOD = {KHLONGRAE_WINDOW, 2, 67, 71, 8, 128, 0, 0, 0};
 
 static uint32_t decode(struct call c) {
     lent = pattern;
-    return khlongrae_decode(samples, c.samples, c.level, c.threshold, c.second, c.distance, c.index, lent.message, c.message, lent.words,
-                            c.words, lent.floats, c.floats);
+    return khlongrae_decode(samples, c.samples, c.level, c.threshold, c.second, c.distance, c.index, lent.message,
+                            (size_t)(KHLONGRAE_MESSAGE + c.message), lent.words, (size_t)(KHLONGRAE_WORDS + c.words), lent.floats,
+                            (size_t)(KHLONGRAE_FLOATS + c.floats));
 }
 
-static int unchanged(void) { return memcmp(&lent, &pattern, sizeof lent) == 0; }
+static uint32_t decode_short(struct call c) {
+    short_lent = pattern;
+    return khlongrae_decode_short(samples, c.samples, c.level, c.threshold, c.second, c.distance, c.index, short_lent.message,
+                                  (size_t)(KHLONGRAE_SHORT_MESSAGE + c.message), short_lent.words, (size_t)(KHLONGRAE_WORDS + c.words),
+                                  short_lent.floats, (size_t)(KHLONGRAE_FLOATS + c.floats));
+}
 
-#define REFUSED(number, change)                  \
-    do {                                         \
-        struct call c = GOOD;                    \
-        change;                                  \
-        CHECK(decode(c) == number && unchanged()); \
+/* of s only the lengths of the memory count */
+static struct khlongrae_both_answer decode_both(struct call c, struct call s) {
+    lent = short_lent = pattern;
+    return khlongrae_decode_both(samples, c.samples, c.level, c.threshold, c.second, c.distance, c.index, lent.message,
+                                 (size_t)(KHLONGRAE_MESSAGE + c.message), lent.words, (size_t)(KHLONGRAE_WORDS + c.words), lent.floats,
+                                 (size_t)(KHLONGRAE_FLOATS + c.floats), short_lent.message, (size_t)(KHLONGRAE_SHORT_MESSAGE + s.message),
+                                 short_lent.words, (size_t)(KHLONGRAE_WORDS + s.words), short_lent.floats,
+                                 (size_t)(KHLONGRAE_FLOATS + s.floats));
+}
+
+static int same(const struct lent *a, const struct lent *b) { return memcmp(a, b, sizeof pattern) == 0; }
+
+static int both_are(struct khlongrae_both_answer answer, uint32_t number, uint32_t short_number) {
+    return answer.number == number && answer.short_number == short_number;
+}
+
+/* the three decodes answer this number to the changed call, and write nothing */
+#define REFUSED(number, change)                                                                                                \
+    do {                                                                                                                       \
+        struct call c = GOOD;                                                                                                  \
+        change;                                                                                                                \
+        CHECK(decode(c) == number && same(&lent, &pattern));                                                                   \
+        CHECK(decode_short(c) == number && same(&short_lent, &pattern));                                                       \
+        CHECK(both_are(decode_both(c, GOOD), number, number) && same(&lent, &pattern) && same(&short_lent, &pattern));         \
+    } while (0)
+
+/* and so does that of both where only the short message's memory is changed */
+#define NO_ROOM(change)                                                                                                        \
+    do {                                                                                                                       \
+        struct call s = GOOD;                                                                                                  \
+        REFUSED(KHLONGRAE_OUTPUT_LENGTH, c.change);                                                                            \
+        s.change;                                                                                                              \
+        CHECK(both_are(decode_both(GOOD, s), KHLONGRAE_OUTPUT_LENGTH, KHLONGRAE_OUTPUT_LENGTH));                               \
+        CHECK(same(&lent, &pattern) && same(&short_lent, &pattern));                                                           \
     } while (0)
 
 static void decodes(void) {
     static const uint64_t found[8] = {128, 15, 3, 1, 0, 0, 0, KHLONGRAE_COHERENT};
     static const uint64_t repaired[8] = {128, 16, 0, 0, 2, 40, 41, KHLONGRAE_COHERENT};
     uint8_t damaged[14];
-    memset(&pattern, 0xA5, sizeof pattern);
 
-    transmit(WORKED, 128);
+    transmit(WORKED, 14, 128);
     CHECK(decode(GOOD) == KHLONGRAE_DONE);
     CHECK(memcmp(lent.message, WORKED, 14) == 0 && lent.message[14] == 0xA5);
     CHECK(memcmp(lent.words, found, sizeof found) == 0 && lent.words[8] == pattern.words[8]);
@@ -77,25 +120,88 @@ static void decodes(void) {
 
     REFUSED(KHLONGRAE_INPUT_LENGTH, c.samples = KHLONGRAE_WINDOW - 1);
     REFUSED(KHLONGRAE_INPUT_LENGTH, c.samples = 0);
-    REFUSED(KHLONGRAE_OUTPUT_LENGTH, c.message = 13);
-    REFUSED(KHLONGRAE_OUTPUT_LENGTH, c.message = 15);
-    REFUSED(KHLONGRAE_OUTPUT_LENGTH, c.words = 9);
-    REFUSED(KHLONGRAE_OUTPUT_LENGTH, c.floats = 3);
+    NO_ROOM(message = -1);
+    NO_ROOM(message = 1);
+    NO_ROOM(words = 1);
+    NO_ROOM(floats = 1);
     REFUSED(KHLONGRAE_LEVEL, c.level = 3);
     REFUSED(KHLONGRAE_THRESHOLD, c.threshold = NAN);
     REFUSED(KHLONGRAE_THRESHOLD, c.second = INFINITY);
     REFUSED(KHLONGRAE_INDEX, c.index = 127);
     REFUSED(KHLONGRAE_INDEX, c.index = ((uint64_t)1 << 63) + 1);
+    REFUSED(KHLONGRAE_INPUT_LENGTH, (c.samples = 0, c.message = 1, c.level = 3, c.second = NAN, c.index = 0));
+    REFUSED(KHLONGRAE_OUTPUT_LENGTH, (c.message = 1, c.level = 3, c.second = NAN, c.index = 0));
     REFUSED(KHLONGRAE_LEVEL, (c.level = 3, c.second = NAN, c.index = 0));
+    REFUSED(KHLONGRAE_THRESHOLD, (c.second = NAN, c.index = 0));
 
     memcpy(damaged, WORKED, 14);
     damaged[5] ^= 0xC0;
-    transmit(damaged, 128);
+    transmit(damaged, 14, 128);
     CHECK(decode(GOOD) == KHLONGRAE_DONE);
     CHECK(memcmp(lent.message, WORKED, 14) == 0 && memcmp(lent.words, repaired, sizeof repaired) == 0);
     REFUSED(KHLONGRAE_NO_MESSAGE, c.level = 1);
-    memset(samples, 0, sizeof samples);
+    silence();
     REFUSED(KHLONGRAE_NO_MESSAGE, (void)c);
+}
+
+/* what a short decode finds of the squitter with these bits turned over */
+static uint32_t short_with(uint8_t fourth, uint8_t last, struct call c) {
+    uint8_t damaged[7];
+    memcpy(damaged, SQUITTER, 7);
+    damaged[4] ^= fourth;
+    damaged[6] ^= last;
+    transmit(damaged, 7, 500);
+    return decode_short(c);
+}
+
+static void short_decodes(void) {
+    static const uint64_t found[8] = {500, 62, 0, 1, 0, 0, 0, KHLONGRAE_COHERENT};
+    struct call c = GOOD;
+
+    CHECK(short_with(0, 0, GOOD) == KHLONGRAE_DONE);
+    CHECK(memcmp(short_lent.message, SQUITTER, 7) == 0 && short_lent.message[7] == 0xA5);
+    CHECK(memcmp(short_lent.words, found, sizeof found) == 0 && short_lent.words[8] == pattern.words[8]);
+    CHECK(isinf(short_lent.floats[KHLONGRAE_FLOAT_CN0]) && short_lent.floats[KHLONGRAE_FLOAT_FRACTION] == -0.5f);
+    transmit(SQUITTER, 7, 699);
+    CHECK(decode_short(GOOD) == KHLONGRAE_DONE && short_lent.words[KHLONGRAE_WORD_BIT] == 87);
+
+    /* one bit is repaired, at level 2 as at level 1; two are not. Thresholds and distance play no part */
+    for (c.level = 0; c.level < 3; c.level++) {
+        uint32_t number = c.level == 0 ? KHLONGRAE_NO_MESSAGE : KHLONGRAE_DONE;
+        c.threshold = c.second = 3e38f;
+        c.distance = 0;
+        CHECK(short_with(0x80, 0, c) == number && same(&short_lent, &pattern) == (c.level == 0));
+        CHECK(c.level == 0 || (memcmp(short_lent.message, SQUITTER, 7) == 0 && short_lent.words[KHLONGRAE_WORD_REPAIRS] == 1));
+        CHECK(c.level == 0 || (short_lent.words[KHLONGRAE_WORD_FIRST] == 32 && short_lent.words[KHLONGRAE_WORD_SECOND] == 0));
+        CHECK(short_with(0xC0, 0, c) == KHLONGRAE_NO_MESSAGE && same(&short_lent, &pattern));
+    }
+
+    /* a reply to the interrogators 1 to 127: those with one bit set are taken, with one repair at 55, 54 .. 49 */
+    for (unsigned code = 1, position = 55; code < 128; code++) {
+        int one = (code & (code - 1)) == 0;
+        CHECK(short_with(0, (uint8_t)code, GOOD) == (one ? KHLONGRAE_DONE : KHLONGRAE_NO_MESSAGE));
+        CHECK(!one || (short_lent.words[KHLONGRAE_WORD_REPAIRS] == 1 && short_lent.words[KHLONGRAE_WORD_FIRST] == position--));
+    }
+}
+
+/* each kind is answered as its own decode answers it, whatever becomes of the other */
+static void both_decodes(void) {
+    transmit(WORKED, 14, 128);
+    CHECK(both_are(decode_both(GOOD, GOOD), KHLONGRAE_DONE, KHLONGRAE_NO_MESSAGE) && same(&short_lent, &pattern));
+    CHECK(memcmp(lent.message, WORKED, 14) == 0 && lent.message[14] == 0xA5);
+    transmit(SQUITTER, 7, 500);
+    CHECK(both_are(decode_both(GOOD, GOOD), KHLONGRAE_NO_MESSAGE, KHLONGRAE_DONE) && same(&lent, &pattern));
+    CHECK(memcmp(short_lent.message, SQUITTER, 7) == 0 && short_lent.message[7] == 0xA5);
+
+    /* the real part has the one, and the norm the other */
+    transmit(WORKED, 14, 128);
+    send(SQUITTER, 7, 500, IMAGINARY, 4.0f);
+    CHECK(both_are(decode_both(GOOD, GOOD), KHLONGRAE_DONE, KHLONGRAE_DONE));
+    struct lent long_one = lent, short_one = short_lent;
+    CHECK(memcmp(lent.message, WORKED, 14) == 0 && memcmp(short_lent.message, SQUITTER, 7) == 0);
+    CHECK(lent.words[KHLONGRAE_WORD_SLICER] == KHLONGRAE_COHERENT && short_lent.words[KHLONGRAE_WORD_SLICER] == KHLONGRAE_NONCOHERENT);
+    CHECK(decode(GOOD) == KHLONGRAE_DONE && same(&lent, &long_one));
+    CHECK(decode_short(GOOD) == KHLONGRAE_DONE && same(&short_lent, &short_one));
 }
 
 /* what the header says of another rounding: the call ends, its floats have other bits, and the rounding stays as it was set */
@@ -103,7 +209,7 @@ static void environments(void) {
     static const int roundings[3] = {FE_UPWARD, FE_DOWNWARD, FE_TOWARDZERO};
     float kept[KHLONGRAE_FLOATS];
     uint32_t noise = 1;
-    transmit(WORKED, 128);
+    transmit(WORKED, 14, 128);
     for (int i = 0; i < KHLONGRAE_WINDOW; i++) {
         noise = noise * 1664525u + 1013904223u;
         samples[i] += (float)(noise >> 8) / 16777216.0f - 0.5f;
@@ -132,6 +238,7 @@ static void messages(void) {
     CHECK(memcmp(line, "*880776AC000000;", 16) == 0);
 
     CHECK(khlongrae_remainder(WORKED, 14) == 0);
+    CHECK(khlongrae_remainder(SQUITTER, 7) == 0);
     CHECK(khlongrae_remainder(NULL, 0) == 0);
     one[13] = 1;
     CHECK(khlongrae_remainder(one, 14) == 0xFFF409);
@@ -139,9 +246,14 @@ static void messages(void) {
     CHECK(khlongrae_remainder(one, 14) == 0x001C1B);
 }
 
+static int told(struct khlongrae_header_answer h, uint32_t number, uint32_t valid) { return h.number == number && h.valid == valid; }
+
 static int header_is(uint8_t first, uint32_t count, uint32_t j, uint32_t k, uint32_t number, uint32_t valid) {
-    struct khlongrae_header_answer h = khlongrae_header(first, count, j, k);
-    return h.number == number && h.valid == valid;
+    return told(khlongrae_header(first, count, j, k), number, valid);
+}
+
+static int short_is(uint8_t first, uint32_t count, uint32_t j, uint32_t k, uint32_t number, uint32_t valid) {
+    return told(khlongrae_header_short(first, count, j, k), number, valid);
 }
 
 static void headers(void) {
@@ -156,11 +268,23 @@ static void headers(void) {
     CHECK(header_is(0x89, 1, 256 + 7, 0, KHLONGRAE_POSITION, 0));
     CHECK(header_is(0x88, 2, 0, 112, KHLONGRAE_POSITION, 0));
     CHECK(header_is(0x88, 3, 112, 112, KHLONGRAE_LEVEL, 0));
+
+    CHECK(short_is(0x58, 0, 999, 999, KHLONGRAE_DONE, 1) && header_is(0x58, 0, 0, 0, KHLONGRAE_DONE, 0));
+    CHECK(short_is(0x88, 0, 0, 0, KHLONGRAE_DONE, 0));
+    CHECK(short_is(0x59, 0, 7, 0, KHLONGRAE_DONE, 0));
+    CHECK(short_is(0x59, 1, 7, 999, KHLONGRAE_DONE, 1));
+    CHECK(short_is(0x5D, 2, 55, 55, KHLONGRAE_DONE, 1));
+    CHECK(short_is(0x58, 1, 56, 0, KHLONGRAE_POSITION, 0));
+    CHECK(short_is(0x58, 2, 0, 56, KHLONGRAE_POSITION, 0));
+    CHECK(short_is(0x59, 1, 256 + 7, 0, KHLONGRAE_POSITION, 0));
+    CHECK(short_is(0x58, 3, 56, 56, KHLONGRAE_LEVEL, 0));
 }
 
-/* the letters of the listing, by kind: those of both header lists, and none for any other first byte */
+/* the letters of the listing, by kind: those of the header lists, and none for any other first byte */
 static void addresses(void) {
     static const struct { uint8_t first; uint32_t kind; } taken[] = {
+        {0x58, KHLONGRAE_ADDRESS_ICAO}, {0x5C, KHLONGRAE_ADDRESS_ICAO}, {0x5D, KHLONGRAE_ADDRESS_ICAO}, {0x5E, KHLONGRAE_ADDRESS_ICAO},
+        {0x5F, KHLONGRAE_ADDRESS_ICAO},
         {0x88, KHLONGRAE_ADDRESS_ICAO}, {0x8C, KHLONGRAE_ADDRESS_ICAO}, {0x8D, KHLONGRAE_ADDRESS_ICAO}, {0x8E, KHLONGRAE_ADDRESS_ICAO},
         {0x8F, KHLONGRAE_ADDRESS_ICAO}, {0x90, KHLONGRAE_ADDRESS_ICAO}, {0x92, KHLONGRAE_ADDRESS_FLAGGED},
         {0x93, KHLONGRAE_ADDRESS_FLAGGED}, {0x95, KHLONGRAE_ADDRESS_OTHER}, {0x96, KHLONGRAE_ADDRESS_FLAGGED}};
@@ -200,7 +324,10 @@ static void carriers(void) {
 
 int main(void) {
     CHECK(khlongrae_version() == KHLONGRAE_VERSION);
+    memset(&pattern, 0xA5, sizeof pattern);
     decodes();
+    short_decodes();
+    both_decodes();
     environments();
     messages();
     headers();

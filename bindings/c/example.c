@@ -1,5 +1,5 @@
-/* example FILE: decodes each window of a file, such as samples/listing.win, and prints a line for each. docs/WINDOWS.md says what
- * the file holds. C and C++ alike. */
+/* example FILE: decodes each window of a file, such as samples/both.win, and prints a line for each message that it holds, that of a
+ * short one after that of a long one, or for a window that holds none. docs/WINDOWS.md says what the file holds. C and C++ alike. */
 #include "khlongrae.h"
 
 #include <inttypes.h>
@@ -42,10 +42,20 @@ static void print_address(const uint8_t *message) {
     if (letter != '-') printf("%02X%02X%02X", message[1], message[2], message[3]);
 }
 
-static void print_found(unsigned window, const uint8_t *message, const uint64_t *words) {
+/* what a decode writes, with room for a message of either kind */
+struct found {
+    uint8_t message[KHLONGRAE_MESSAGE];
+    uint64_t words[KHLONGRAE_WORDS];
+    float floats[KHLONGRAE_FLOATS];
+};
+
+static void print_found(unsigned window, const struct found *found, size_t bytes) {
+    const uint8_t *message = found->message;
+    const uint64_t *words = found->words;
     uint8_t line[KHLONGRAE_LINE];
-    if (khlongrae_avr(message, KHLONGRAE_MESSAGE, line, sizeof line) != KHLONGRAE_DONE) stop("no AVR line");
-    printf("%u %.*s", window, (int)sizeof line, (const char *)line);
+    size_t length = bytes == KHLONGRAE_MESSAGE ? KHLONGRAE_LINE : KHLONGRAE_SHORT_LINE;
+    if (khlongrae_avr(message, bytes, line, length) != KHLONGRAE_DONE) stop("no AVR line");
+    printf("%u %.*s", window, (int)length, (const char *)line);
     print_address(message);
     printf(" place %" PRIu64 ",%" PRIu64 ",%" PRIu64 " index %" PRIu64 " slicer %c repairs %" PRIu64, words[KHLONGRAE_WORD_BIT],
            words[KHLONGRAE_WORD_PHASE], words[KHLONGRAE_WORD_SYMBOL], words[KHLONGRAE_WORD_INDEX],
@@ -75,19 +85,19 @@ int main(int count, char **words_given) {
     if (read_number(file, 4) != KHLONGRAE_WINDOW * windows) stop("a window has 2,310 numbers");
 
     for (unsigned k = 0; k < windows; k++) {
-        uint8_t message[KHLONGRAE_MESSAGE];
-        uint64_t words[KHLONGRAE_WORDS];
-        float floats[KHLONGRAE_FLOATS];
+        struct found found, short_found;
         for (int i = 0; i < KHLONGRAE_WINDOW; i++) samples[i] = read_float(file);
-        uint32_t number = khlongrae_decode(samples, KHLONGRAE_WINDOW, level, threshold, second, distance, indices[k], message,
-                                           KHLONGRAE_MESSAGE, words, KHLONGRAE_WORDS, floats, KHLONGRAE_FLOATS);
-        if (number == KHLONGRAE_DONE) {
-            print_found(k, message, words);
-        } else if (number == KHLONGRAE_NO_MESSAGE) {
-            printf("%u none\n", k);
-        } else {
-            printf("%u refused %" PRIu32 "\n", k, number);
+        struct khlongrae_both_answer both =
+            khlongrae_decode_both(samples, KHLONGRAE_WINDOW, level, threshold, second, distance, indices[k], found.message,
+                                  KHLONGRAE_MESSAGE, found.words, KHLONGRAE_WORDS, found.floats, KHLONGRAE_FLOATS, short_found.message,
+                                  KHLONGRAE_SHORT_MESSAGE, short_found.words, KHLONGRAE_WORDS, short_found.floats, KHLONGRAE_FLOATS);
+        if (both.number > KHLONGRAE_NO_MESSAGE) {
+            printf("%u refused %" PRIu32 "\n", k, both.number);
+            continue;
         }
+        if (both.number == KHLONGRAE_DONE) print_found(k, &found, KHLONGRAE_MESSAGE);
+        if (both.short_number == KHLONGRAE_DONE) print_found(k, &short_found, KHLONGRAE_SHORT_MESSAGE);
+        if (both.number == KHLONGRAE_NO_MESSAGE && both.short_number == KHLONGRAE_NO_MESSAGE) printf("%u none\n", k);
     }
     fclose(file);
     return 0;

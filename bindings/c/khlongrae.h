@@ -2,7 +2,8 @@
  *
  * Every function is proved to answer its definition, whatever it is given (docs/CONTRACTS.md names each). It keeps no state, takes
  * nothing from the heap and calls nothing but memcpy, memmove and memset, so that any number of threads may call it. A decode takes
- * some 54 KiB of stack: 54,452 bytes at most as it was measured for x86-64 (tools/stack).
+ * some 49 KiB of stack, and one of both kinds some 58 KiB: 49,528 and 59,080 bytes at most as it was measured for x86-64, 48,672 and
+ * 58,384 for Arm; tools/stack measures it.
  *
  * A slice is a pointer and a length, in elements. The library checks every length itself and refuses a wrong one. What it cannot
  * check is left to the caller: that a pointer is good for its length (with length 0 it may be null), that it is aligned for the type
@@ -40,15 +41,15 @@ enum khlongrae_number {
     KHLONGRAE_THRESHOLD = 5,     /* a threshold that is infinite or no number; a carrier's also where it is below 0 (-0.0 is taken) */
     KHLONGRAE_INDEX = 6,         /* a sample index below 128 or above 2^63 */
     KHLONGRAE_PLACE = 7,         /* a place out of its range: here, a bin that the spectrum has not */
-    KHLONGRAE_POSITION = 8,      /* a repaired position above 111 */
+    KHLONGRAE_POSITION = 8,      /* a repaired position above 111, of a short message above 55 */
     KHLONGRAE_HALF_WIDTH = 9     /* a half-width that is too large for the spectrum */
 };
 
-/* The lengths that khlongrae_decode and khlongrae_avr take. bindings/rust has each under the same name, without the prefix. */
+/* The lengths that the decodes and khlongrae_avr take. bindings/rust has each under the same name, without the prefix. */
 enum khlongrae_length {
     KHLONGRAE_WINDOW = 2310,     /* numbers of a window: 1,155 samples, each a real part and an imaginary part */
     KHLONGRAE_MESSAGE = 14,      /* bytes of a message */
-    KHLONGRAE_SHORT_MESSAGE = 7, /* bytes of a short one, for khlongrae_avr */
+    KHLONGRAE_SHORT_MESSAGE = 7, /* bytes of a short one */
     KHLONGRAE_WORDS = 8,         /* whole numbers of a decode */
     KHLONGRAE_FLOATS = 2,        /* floats of a decode */
     KHLONGRAE_LINE = 30,         /* bytes of the AVR line of a message */
@@ -58,11 +59,12 @@ enum khlongrae_length {
 /* The whole numbers of a decode, by their place in `words`. */
 enum khlongrae_word {
     KHLONGRAE_WORD_INDEX = 0,    /* when the message came: the number of its first sample, at 8,000,000 samples a second */
-    KHLONGRAE_WORD_BIT = 1,      /* where it was read: bit offset, 1 to 31, */
+    KHLONGRAE_WORD_BIT = 1,      /* where it was read: bit offset, 1 to 31, of a short message 1 to 87, */
     KHLONGRAE_WORD_PHASE = 2,    /*     clock phase, 0 to 3, */
     KHLONGRAE_WORD_SYMBOL = 3,   /*     symbol offset, 0 or 1; its first sample in the window is 4 * (2 * bit + symbol) + phase */
-    KHLONGRAE_WORD_REPAIRS = 4,  /* how many bits were turned over: 0, 1 or 2 */
-    KHLONGRAE_WORD_FIRST = 5,    /* the first of them, 0 to 111 (bit 0 is the top bit of byte 0), or 0 where there is none */
+    KHLONGRAE_WORD_REPAIRS = 4,  /* how many bits were turned over: 0, 1 or 2, of a short message 0 or 1 */
+    KHLONGRAE_WORD_FIRST = 5,    /* the first of them, 0 to 111, of a short message 0 to 55 (bit 0 is the top bit of byte 0), or 0 where
+                                    there is none */
     KHLONGRAE_WORD_SECOND = 6,   /* the second of them, above the first, or 0 where there is none */
     KHLONGRAE_WORD_SLICER = 7    /* who read the bits: see below */
 };
@@ -100,17 +102,45 @@ uint32_t khlongrae_decode(const float *samples, size_t samples_len, uint32_t lev
                           uint64_t index, uint8_t *message, size_t message_len, uint64_t *words, size_t words_len, float *floats,
                           size_t floats_len);
 
+/* Looks for a short message, of 7 bytes: an acquisition squitter, format 11. All is as for khlongrae_decode, but for this:
+ *
+ *   level      at most one bit is repaired: 2 is treated as 1
+ *   threshold, second, distance
+ *              have no effect, since they speak of two repairs; a threshold that is infinite or no number is refused all the same
+ *   message    7 bytes
+ *
+ * A reply to an interrogator that has one of the codes 1, 2, 4, 8, 16, 32 and 64 is taken at levels 1 and 2, with one repair at position
+ * 55, 54 .. 49, though it is no squitter: see docs/AUDIT.md. */
+uint32_t khlongrae_decode_short(const float *samples, size_t samples_len, uint32_t level, float threshold, float second,
+                                uint32_t distance, uint64_t index, uint8_t *message, size_t message_len, uint64_t *words,
+                                size_t words_len, float *floats, size_t floats_len);
+
+struct khlongrae_both_answer {
+    uint32_t number;             /* what khlongrae_decode answers */
+    uint32_t short_number;       /* what khlongrae_decode_short answers */
+};
+
+/* Looks for a message of either kind: the two calls in one, with what both need made once. message, words and floats are those of the
+ * message of 14 bytes; short_message (7 bytes), short_words and short_floats are those of the short one. The outputs of a kind are written
+ * where its number is 0, and else stay as they were. 2, 4, 5 and 6 are answered as both numbers, and so is 3 where any of the six outputs
+ * has the wrong length. */
+struct khlongrae_both_answer khlongrae_decode_both(const float *samples, size_t samples_len, uint32_t level, float threshold, float second,
+                                                   uint32_t distance, uint64_t index, uint8_t *message, size_t message_len,
+                                                   uint64_t *words, size_t words_len, float *floats, size_t floats_len,
+                                                   uint8_t *short_message, size_t short_message_len, uint64_t *short_words,
+                                                   size_t short_words_len, float *short_floats, size_t short_floats_len);
+
 /* Writes the AVR line of a message of 7 or 14 bytes: `*`, two capital hex digits for each byte, `;`. The line has exactly 16 or 30
  * bytes, with no zero behind it. Answers 0, or 2 (another length of the message), or 3 (another length of the line). */
 uint32_t khlongrae_avr(const uint8_t *message, size_t message_len, uint8_t *line, size_t line_len);
 
 /* The remainder of a string of bytes of any length: the string times x^24, modulo the generator of ICAO Annex 10 Volume IV. It has 24
- * bits and is never refused. It is 0 for a message of 14 bytes that came without an error. */
+ * bits and is never refused. It is 0 for a message that a decode looks for, of 14 bytes or of 7, that came without an error. */
 uint32_t khlongrae_remainder(const uint8_t *bytes, size_t bytes_len);
 
 struct khlongrae_header_answer {
     uint32_t number;
-    uint32_t valid;              /* 1 where the header is that of an extended squitter, else 0 */
+    uint32_t valid;              /* 1 where the header is one that is taken, else 0 */
 };
 
 /* Whether the first byte of a 14-byte message is that of an extended squitter once `count` of its bits are turned over: none, the
@@ -118,10 +148,14 @@ struct khlongrae_header_answer {
  * 2), or 8 (a counted position above 111). */
 struct khlongrae_header_answer khlongrae_header(uint8_t first, uint32_t count, uint32_t j, uint32_t k);
 
+/* The same for the first byte of a 7-byte message and an acquisition squitter: format 11 with a capability that is listed. Number 0, or
+ * 4, or 8 (a counted position above 55). */
+struct khlongrae_header_answer khlongrae_header_short(uint8_t first, uint32_t count, uint32_t j, uint32_t k);
+
 /* What the three bytes behind a first byte are. */
 enum khlongrae_address {
     KHLONGRAE_NO_ADDRESS = 0,     /* no address: a management message (format 18, control code 4), and every header that is not taken */
-    KHLONGRAE_ADDRESS_ICAO = 1,   /* an ICAO address: format 17, and format 18 with control code 0 */
+    KHLONGRAE_ADDRESS_ICAO = 1,   /* an ICAO address: formats 11 and 17, and format 18 with control code 0 */
     KHLONGRAE_ADDRESS_OTHER = 2,  /* an address of another kind: format 18 with control code 5 */
     KHLONGRAE_ADDRESS_FLAGGED = 3 /* one or the other, as a flag inside the message tells: format 18 with control code 2, 3 or 6 */
 };

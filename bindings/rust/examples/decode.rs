@@ -1,6 +1,7 @@
-//! decode FILE: decodes each window of a file, such as samples/listing.win, and prints a line for each; `-` is standard input.
-//! docs/WINDOWS.md says what the file holds. A file that is refused ends with a sentence and the number of its refusal.
-use khlongrae::{Answer, FileError, VERSION, Windows, decode, version};
+//! decode FILE: decodes each window of a file, such as samples/both.win, and prints a line for each message that it holds, that of a short
+//! one after that of a long one, or for a window that holds none; `-` is standard input. docs/WINDOWS.md says what the file holds. A file
+//! that is refused ends with a sentence and the number of its refusal.
+use khlongrae::{Answer, BothAnswers, FileError, VERSION, Windows, decode_both, version};
 use std::error::Error;
 use std::fs::File;
 use std::io::{Read, Write, stdin, stdout};
@@ -8,6 +9,12 @@ use std::process::ExitCode;
 
 fn told(error: FileError) -> String {
     format!("refused {}: {error}", error.number())
+}
+
+fn print<const N: usize>(output: &mut impl Write, k: usize, found: &Answer<N>) -> std::io::Result<()> {
+    let Answer { place, index, slicer, repairs, .. } = found;
+    let address = found.address().map_or_else(|| "-".into(), |address| address.to_string());
+    writeln!(output, "{k} {} address {address} place {place} index {index} slicer {slicer} repairs {repairs}", found.avr())
 }
 
 fn run() -> Result<(), Box<dyn Error>> {
@@ -21,13 +28,15 @@ fn run() -> Result<(), Box<dyn Error>> {
     let mut output = stdout();
     for (k, window) in windows.enumerate() {
         let window = window.map_err(told)?;
-        match decode(&window.samples, settings, window.index)? {
-            None => writeln!(output, "{k} none")?,
-            Some(found) => {
-                let Answer { place, index, slicer, repairs, .. } = found;
-                let address = found.address().map_or_else(|| "-".into(), |address| address.to_string());
-                writeln!(output, "{k} {} address {address} place {place} index {index} slicer {slicer} repairs {repairs}", found.avr())?;
-            }
+        let BothAnswers { long, short } = decode_both(&window.samples, settings, window.index)?;
+        if let Some(found) = long {
+            print(&mut output, k, &found)?;
+        }
+        if let Some(found) = short {
+            print(&mut output, k, &found)?;
+        }
+        if long.is_none() && short.is_none() {
+            writeln!(output, "{k} none")?;
         }
     }
     Ok(())

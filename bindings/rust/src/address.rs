@@ -5,7 +5,7 @@ use core::fmt;
 /// Of which kind an address is. Only an ICAO address names an aircraft of the ICAO register.
 #[derive(Clone, Copy, Debug, PartialEq, Eq, PartialOrd, Ord, Hash)]
 pub enum AddressKind {
-    /// An ICAO address: format 17, and format 18 with control code 0.
+    /// An ICAO address: formats 11 and 17, and format 18 with control code 0.
     Icao,
     /// An address of another kind: format 18 with control code 5.
     Other,
@@ -25,7 +25,8 @@ impl fmt::Display for AddressKind {
 }
 
 /// The kind of the address behind a first byte, which is taken as it is after the repairs. `None` where it claims no address: a
-/// management message, format 18 with control code 4, and every first byte that [`header`](crate::header) does not take.
+/// management message, format 18 with control code 4, and every first byte that neither [`header`](crate::header) nor
+/// [`header_short`](crate::header_short) takes.
 #[must_use]
 pub fn address_kind(first: u8) -> Option<AddressKind> {
     // SAFETY: no memory is lent.

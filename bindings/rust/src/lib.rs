@@ -3,7 +3,7 @@
 //! The library checks every length and every setting itself, so the calls here check nothing: they hand slices over, and turn a
 //! number into a [`Refusal`]. A refused call leaves lent memory as it was. Where several refusals apply, the lowest number from 2
 //! up is told. No call keeps state, takes memory from the heap, or panics (but for an archive of another interface, see
-//! [`version`]); a decode takes some 54 KiB of stack. [`raw`] has the library's functions as they are.
+//! [`version`]); a decode takes some 49 KiB of stack, one of both kinds some 58 KiB. [`raw`] has the library's functions as they are.
 //!
 //! The proof is of the library in the default float environment, which `khlongrae.h` describes. What is written in Rust here is not
 //! proved: the names and texts of an answer's fields, [`Answer::received`], and the reader of files.
@@ -34,11 +34,13 @@ pub use address::{Address, AddressKind, address_kind};
 pub use carrier::{Carrier, Strongest, carrier_notched_power, check_carrier_metric, check_local_maximum, long_fft_max_search};
 #[cfg(feature = "std")]
 pub use file::{FileError, MOST_WINDOWS, Malformed, Window, Windows};
-pub use message::{AvrLine, avr, header, remainder};
+pub use message::{AvrLine, avr, header, header_short, remainder};
 pub use raw::{FLOATS, LINE, MESSAGE, SHORT_LINE, SHORT_MESSAGE, VERSION, WINDOW, WORDS};
 pub use refusal::Refusal;
 pub use repairs::{Positions, Repairs};
-pub use window::{Answer, Place, Settings, Slicer, decode, decode_into};
+pub use window::{
+    Answer, BothAnswers, Place, Settings, ShortAnswer, Slicer, decode, decode_both, decode_into, decode_short, decode_short_into,
+};
 
 /// The number of the library's interface. Compare it with [`VERSION`] before any other call: it grows where a signature or the
 /// meaning of a field changes.

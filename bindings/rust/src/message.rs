@@ -66,8 +66,8 @@ impl fmt::Debug for AvrLine {
     }
 }
 
-/// The remainder of a string of bytes of any length, as ICAO Annex 10 Volume IV has it: 0 for a message of 14 bytes that came
-/// without an error.
+/// The remainder of a string of bytes of any length, as ICAO Annex 10 Volume IV has it: 0 for a message that a decode looks for, of 14
+/// bytes or of 7, that came without an error.
 #[must_use]
 pub fn remainder(bytes: &[u8]) -> u32 {
     // SAFETY: the pointer is good for its length.
@@ -80,13 +80,30 @@ pub fn remainder(bytes: &[u8]) -> u32 {
 /// # Errors
 /// [`Refusal::Position`] where a position is above 111.
 pub fn header(first: u8, repairs: Repairs) -> Result<bool, Refusal> {
-    let (count, j, k) = match repairs {
+    let (count, j, k) = counted(repairs);
+    // SAFETY: no memory is lent.
+    taken(unsafe { raw::khlongrae_header(first, count, j, k) })
+}
+
+/// Whether the first byte of a 7-byte message is that of an acquisition squitter once the repairs are made.
+///
+/// # Errors
+/// [`Refusal::Position`] where a position is above 55.
+pub fn header_short(first: u8, repairs: Repairs) -> Result<bool, Refusal> {
+    let (count, j, k) = counted(repairs);
+    // SAFETY: no memory is lent.
+    taken(unsafe { raw::khlongrae_header_short(first, count, j, k) })
+}
+
+fn counted(repairs: Repairs) -> (u32, u32, u32) {
+    match repairs {
         Repairs::None => (0, 0, 0),
         Repairs::One(j) => (1, j, 0),
         Repairs::Two(j, k) => (2, j, k),
-    };
-    // SAFETY: no memory is lent.
-    let answer = unsafe { raw::khlongrae_header(first, count, j, k) };
+    }
+}
+
+fn taken(answer: raw::Header) -> Result<bool, Refusal> {
     Refusal::unless_done(answer.number)?;
     Ok(answer.valid == 1)
 }

@@ -24,7 +24,7 @@ pub const THRESHOLD: u32 = 5;
 pub const INDEX: u32 = 6;
 /// A place out of its range: here, a bin that the spectrum has not.
 pub const PLACE: u32 = 7;
-/// A repaired position above 111.
+/// A repaired position above 111, of a short message above 55.
 pub const POSITION: u32 = 8;
 /// A half-width that is too large for the spectrum.
 pub const HALF_WIDTH: u32 = 9;
@@ -80,13 +80,23 @@ pub const ADDRESS_OTHER: u32 = 2;
 /// Behind a first byte: an address whose kind a flag inside the message tells.
 pub const ADDRESS_FLAGGED: u32 = 3;
 
-/// What [`khlongrae_header`] answers.
+/// What [`khlongrae_decode_both`] answers.
+#[derive(Clone, Copy, Debug)]
+#[repr(C)]
+pub struct Both {
+    /// What [`khlongrae_decode`] answers.
+    pub number: u32,
+    /// What [`khlongrae_decode_short`] answers.
+    pub short_number: u32,
+}
+
+/// What [`khlongrae_header`] and [`khlongrae_header_short`] answer.
 #[derive(Clone, Copy, Debug)]
 #[repr(C)]
 pub struct Header {
     /// 0, or that of the refusal.
     pub number: u32,
-    /// 1 where the header is that of an extended squitter, else 0.
+    /// 1 where the header is one that is taken, else 0.
     pub valid: u32,
 }
 
@@ -143,7 +153,7 @@ pub struct Maximum {
 unsafe extern "C" {
     /// The number of the library's interface.
     pub fn khlongrae_version() -> u32;
-    /// Looks for a message in a window, and writes what it found.
+    /// Looks for a message of 14 bytes in a window, and writes what it found.
     pub fn khlongrae_decode(
         samples: *const f32,
         samples_len: usize,
@@ -159,12 +169,52 @@ unsafe extern "C" {
         floats: *mut f32,
         floats_len: usize,
     ) -> u32;
+    /// Looks for a short message, of 7 bytes, in a window, and writes what it found.
+    pub fn khlongrae_decode_short(
+        samples: *const f32,
+        samples_len: usize,
+        level: u32,
+        threshold: f32,
+        second: f32,
+        distance: u32,
+        index: u64,
+        message: *mut u8,
+        message_len: usize,
+        words: *mut u64,
+        words_len: usize,
+        floats: *mut f32,
+        floats_len: usize,
+    ) -> u32;
+    /// Looks for a message of either kind in a window, and writes what it found of each.
+    pub fn khlongrae_decode_both(
+        samples: *const f32,
+        samples_len: usize,
+        level: u32,
+        threshold: f32,
+        second: f32,
+        distance: u32,
+        index: u64,
+        message: *mut u8,
+        message_len: usize,
+        words: *mut u64,
+        words_len: usize,
+        floats: *mut f32,
+        floats_len: usize,
+        short_message: *mut u8,
+        short_message_len: usize,
+        short_words: *mut u64,
+        short_words_len: usize,
+        short_floats: *mut f32,
+        short_floats_len: usize,
+    ) -> Both;
     /// Writes the AVR line of a message.
     pub fn khlongrae_avr(message: *const u8, message_len: usize, line: *mut u8, line_len: usize) -> u32;
     /// The remainder of a string of bytes.
     pub fn khlongrae_remainder(bytes: *const u8, bytes_len: usize) -> u32;
     /// Whether a first byte is that of an extended squitter once so many of its bits are turned over.
     pub fn khlongrae_header(first: u8, count: u32, j: u32, k: u32) -> Header;
+    /// Whether it is that of an acquisition squitter.
+    pub fn khlongrae_header_short(first: u8, count: u32, j: u32, k: u32) -> Header;
     /// What the three bytes behind a first byte are, by the byte as it is after the repairs.
     pub fn khlongrae_address_kind(first: u8) -> u32;
     /// The strongest bin within `search` of the middle.

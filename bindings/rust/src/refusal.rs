@@ -19,7 +19,7 @@ pub enum Refusal {
     Index = raw::INDEX,
     /// A place out of its range: here, a bin that the spectrum has not.
     Place = raw::PLACE,
-    /// A repaired position above 111.
+    /// A repaired position above 111, of a short message above 55.
     Position = raw::POSITION,
     /// A half-width that is too large for the spectrum.
     HalfWidth = raw::HALF_WIDTH,
@@ -58,7 +58,7 @@ impl fmt::Display for Refusal {
             Refusal::Threshold => "a threshold is out of its range",
             Refusal::Index => "the sample index is below 128 or above 2^63",
             Refusal::Place => "the bin is not one of the spectrum",
-            Refusal::Position => "a repaired position is above 111",
+            Refusal::Position => "a repaired position lies behind the message",
             Refusal::HalfWidth => "a half-width is too large for the spectrum",
         })
     }

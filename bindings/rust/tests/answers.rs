@@ -13,15 +13,32 @@ const FOUND: Answer = Answer {
     cn0: f32::INFINITY,
 };
 
-/// A window with a pulse in the first half of each bit that is 1, in the second half of each that is 0, from a sample on.
-fn window(message: &[u8; MESSAGE], from: usize) -> [f32; WINDOW] {
-    let mut samples = [0.0; WINDOW];
-    for j in 0..8 * MESSAGE {
+const SQUITTER: [u8; SHORT_MESSAGE] = [0x5D, 0x48, 0x40, 0xD6, 0xF8, 0x74, 0x0F];
+const SHORT_FOUND: ShortAnswer = Answer {
+    message: SQUITTER,
+    place: Place { bit: 62, phase: 0, symbol: 1 },
+    repairs: Repairs::None,
+    slicer: Slicer::Coherent,
+    index: 500,
+    fraction: -0.5,
+    cn0: f32::INFINITY,
+};
+
+/// Adds a pulse in the first half of each bit that is 1, in the second half of each that is 0, from a sample on, in the real part (0) or
+/// the imaginary part (1).
+fn send(samples: &mut [f32; WINDOW], message: &[u8], from: usize, part: usize, amplitude: f32) {
+    for j in 0..8 * message.len() {
         let half = if message[j / 8] >> (7 - j % 8) & 1 == 1 { 0 } else { 4 };
         for k in 0..4 {
-            samples[2 * (from + 8 * j + half + k)] = 1.0;
+            samples[2 * (from + 8 * j + half + k) + part] += amplitude;
         }
     }
+}
+
+/// A window with a message from a sample on.
+fn window(message: &[u8], from: usize) -> [f32; WINDOW] {
+    let mut samples = [0.0; WINDOW];
+    send(&mut samples, message, from, 0, 1.0);
     samples
 }
 
@@ -46,7 +63,7 @@ fn the_worked_message_is_found() {
 
 /// What is found where the worked message was sent with these bits turned over.
 fn found_after(damage: &[usize], settings: Settings) -> Option<Answer> {
-    let damaged = damaged(damage);
+    let damaged = damaged(WORKED, damage);
     let found = decode(&window(&damaged, 128), settings, 128).unwrap();
     if let Some(answer) = found {
         assert_eq!(answer.message, WORKED);
@@ -55,8 +72,18 @@ fn found_after(damage: &[usize], settings: Settings) -> Option<Answer> {
     found
 }
 
-fn damaged(damage: &[usize]) -> [u8; MESSAGE] {
-    let mut bytes = WORKED;
+/// What is found where the squitter was sent with these bits turned over.
+fn short_found_after(damage: &[usize], settings: Settings) -> Option<ShortAnswer> {
+    let damaged = damaged(SQUITTER, damage);
+    let found = decode_short(&window(&damaged, 500), settings, 128).unwrap();
+    if let Some(answer) = found {
+        assert_eq!(answer.message, SQUITTER);
+        assert_eq!(answer.received(), damaged);
+    }
+    found
+}
+
+fn damaged<const N: usize>(mut bytes: [u8; N], damage: &[usize]) -> [u8; N] {
     for j in damage {
         bytes[j / 8] ^= 0x80 >> (j % 8);
     }
@@ -75,6 +102,53 @@ fn damaged_bits_are_repaired_and_named() {
 }
 
 #[test]
+fn the_squitter_is_found() {
+    assert_eq!(decode_short(&window(&SQUITTER, 500), SETTINGS, 128), Ok(Some(SHORT_FOUND)));
+    assert_eq!(decode_short(&window(&SQUITTER, 703), SETTINGS, 128).unwrap().unwrap().place.bit, 87);
+    assert_eq!(decode(&window(&SQUITTER, 500), SETTINGS, 128), Ok(None));
+    assert_eq!(decode_short(&window(&WORKED, 128), SETTINGS, 128), Ok(None));
+}
+
+#[test]
+fn one_damaged_bit_of_a_squitter_is_repaired() {
+    let strict = Settings { level: 1, threshold: f32::MAX, second: f32::MAX, distance: 0 };
+    for settings in [SETTINGS, strict] {
+        for j in [0, 7, 20, 55] {
+            assert_eq!(short_found_after(&[j], settings).unwrap().repairs, Repairs::One(j as u32));
+            assert_eq!(short_found_after(&[j], Settings { level: 0, ..settings }), None);
+        }
+        assert_eq!(short_found_after(&[20, 21], settings), None);
+    }
+}
+
+/// Of the replies to interrogators with a code of their own, those with one bit set are taken, with one repair at 55, 54 .. 49.
+#[test]
+fn a_reply_to_a_code_with_one_bit_is_taken() {
+    for code in 1..128u32 {
+        let damage: Vec<usize> = (49..56).filter(|j| code >> (55 - j) & 1 == 1).collect();
+        let repairs = short_found_after(&damage, SETTINGS).map(|answer| answer.repairs);
+        assert_eq!(repairs, (damage.len() == 1).then(|| Repairs::One(damage[0] as u32)), "{code}");
+    }
+}
+
+/// Each kind is answered as its own decode answers it, whatever becomes of the other.
+#[test]
+fn both_kinds_are_found() {
+    let of_both = |samples: &[f32]| decode_both(samples, SETTINGS, 128);
+    assert_eq!(of_both(&[0.0; WINDOW]), Ok(BothAnswers { long: None, short: None }));
+    assert_eq!(of_both(&window(&WORKED, 128)), Ok(BothAnswers { long: Some(FOUND), short: None }));
+    assert_eq!(of_both(&window(&SQUITTER, 500)), Ok(BothAnswers { long: None, short: Some(SHORT_FOUND) }));
+    // the real part has the one, and the norm the other
+    let mut samples = window(&WORKED, 128);
+    send(&mut samples, &SQUITTER, 500, 1, 4.0);
+    let BothAnswers { long, short } = of_both(&samples).unwrap();
+    assert_eq!((long, short), (decode(&samples, SETTINGS, 128).unwrap(), decode_short(&samples, SETTINGS, 128).unwrap()));
+    let (long, short) = (long.unwrap(), short.unwrap());
+    assert_eq!((long.message, long.slicer), (WORKED, Slicer::Coherent));
+    assert_eq!((short.message, short.slicer), (SQUITTER, Slicer::Noncoherent));
+}
+
+#[test]
 fn silence_is_an_answer() {
     assert_eq!(found_after(&[40, 41], Settings { level: 1, ..SETTINGS }), None);
     assert_eq!(found_after(&[40], Settings { level: 0, ..SETTINGS }), None);
@@ -85,13 +159,21 @@ fn silence_is_an_answer() {
     assert_eq!(lent, kept);
     assert_eq!(decode_into(&window(&WORKED, 128), SETTINGS, 128, &mut lent.0, &mut lent.1, &mut lent.2), Ok(true));
     assert_eq!(lent, (WORKED, [128, 15, 3, 1, 0, 0, 0, 0], [f32::INFINITY, -0.5]));
+    let mut lent = ([0xA5; SHORT_MESSAGE], [0xA5A5; WORDS], [1.5; FLOATS]);
+    let kept = lent;
+    assert_eq!(decode_short_into(&[0.0; WINDOW], SETTINGS, 128, &mut lent.0, &mut lent.1, &mut lent.2), Ok(false));
+    assert_eq!(lent, kept);
+    assert_eq!(decode_short_into(&window(&SQUITTER, 500), SETTINGS, 128, &mut lent.0, &mut lent.1, &mut lent.2), Ok(true));
+    assert_eq!(lent, (SQUITTER, [500, 62, 0, 1, 0, 0, 0, 0], [f32::INFINITY, -0.5]));
 }
 
 #[test]
 fn what_was_received_has_the_repairs_undone() {
     for (repairs, damage) in [(Repairs::None, &[][..]), (Repairs::One(9), &[9]), (Repairs::Two(0, 111), &[0, 111])] {
-        assert_eq!(Answer { repairs, ..FOUND }.received(), damaged(damage));
+        assert_eq!(Answer { repairs, ..FOUND }.received(), damaged(WORKED, damage));
     }
+    assert_eq!(Answer { repairs: Repairs::One(55), ..SHORT_FOUND }.received(), damaged(SQUITTER, &[55]));
+    assert_eq!(Answer { repairs: Repairs::One(56), ..SHORT_FOUND }.received(), SQUITTER);
     assert_eq!(Answer { repairs: Repairs::Two(112, u32::MAX), ..FOUND }.received(), WORKED);
 }
 
@@ -119,6 +201,8 @@ fn an_answer_is_printed_as_a_listing_has_it() {
     assert_eq!((Slicer::Coherent.to_string(), Slicer::Noncoherent.to_string()), ("C".into(), "N".into()));
     assert_eq!(FOUND.place.to_string(), "15,3,1");
     assert_eq!(FOUND.avr().as_str(), "*880776AC00000000000000000000;");
+    assert_eq!(SHORT_FOUND.address().unwrap().to_string(), "I4840D6");
+    assert_eq!(SHORT_FOUND.avr().as_str(), "*5D4840D6F8740F;");
 }
 
 #[test]
@@ -143,38 +227,45 @@ fn refusals_have_the_numbers_of_the_library() {
     assert_eq!(all.map(Refusal::number), [2, 3, 4, 5, 6, 7, 8, 9]);
 }
 
-/// A decode into memory of these lengths is refused with this number, and the memory is as it was.
-fn refused(refusal: Refusal, samples: &[f32], settings: Settings, index: u64, lengths: [usize; 3]) {
-    let kept = (vec![0xA5; lengths[0]], vec![0xA5A5; lengths[1]], vec![1.5; lengths[2]]);
-    let mut lent = kept.clone();
-    assert_eq!(decode_into(samples, settings, index, &mut lent.0, &mut lent.1, &mut lent.2), Err(refusal));
-    assert_eq!(lent, kept);
+/// A decode of either kind into memory of these lengths is refused with this number, and the memory is as it was. A length of the
+/// message is told by how much longer it is than it must be.
+fn refused(refusal: Refusal, samples: &[f32], settings: Settings, index: u64, lengths: [isize; 3]) {
+    for (bytes, decode) in [(MESSAGE, decode_into as fn(&_, _, _, &mut _, &mut _, &mut _) -> _), (SHORT_MESSAGE, decode_short_into)] {
+        let long = |right: usize, k: usize| right.checked_add_signed(lengths[k]).unwrap();
+        let kept = (vec![0xA5; long(bytes, 0)], vec![0xA5A5; long(WORDS, 1)], vec![1.5; long(FLOATS, 2)]);
+        let mut lent = kept.clone();
+        assert_eq!(decode(samples, settings, index, &mut lent.0, &mut lent.1, &mut lent.2), Err(refusal));
+        assert_eq!(lent, kept);
+    }
+    if refusal != Refusal::OutputLength {
+        assert_eq!(decode_both(samples, settings, index), Err(refusal));
+    }
 }
 
 #[test]
 fn refused_decodes_leave_lent_memory_as_it_was() {
     let samples = window(&WORKED, 128);
-    let lengths = [MESSAGE, WORDS, FLOATS];
-    refused(Refusal::InputLength, &samples[1..], SETTINGS, 128, lengths);
-    refused(Refusal::InputLength, &[], SETTINGS, 128, lengths);
-    for wrong in [[13, 8, 2], [15, 8, 2], [14, 7, 2], [14, 9, 2], [14, 8, 1], [14, 8, 3], [0, 0, 0]] {
+    let right = [0, 0, 0];
+    refused(Refusal::InputLength, &samples[1..], SETTINGS, 128, right);
+    refused(Refusal::InputLength, &[], SETTINGS, 128, right);
+    for wrong in [[-1, 0, 0], [1, 0, 0], [0, -1, 0], [0, 1, 0], [0, 0, -1], [0, 0, 1], [-7, -8, -2]] {
         refused(Refusal::OutputLength, &samples, SETTINGS, 128, wrong);
     }
-    refused(Refusal::Level, &samples, Settings { level: 3, ..SETTINGS }, 128, lengths);
-    refused(Refusal::Threshold, &samples, Settings { threshold: f32::NAN, ..SETTINGS }, 128, lengths);
-    refused(Refusal::Threshold, &samples, Settings { second: f32::NEG_INFINITY, ..SETTINGS }, 128, lengths);
-    refused(Refusal::Index, &samples, SETTINGS, 127, lengths);
-    refused(Refusal::Index, &samples, SETTINGS, (1 << 63) + 1, lengths);
+    refused(Refusal::Level, &samples, Settings { level: 3, ..SETTINGS }, 128, right);
+    refused(Refusal::Threshold, &samples, Settings { threshold: f32::NAN, ..SETTINGS }, 128, right);
+    refused(Refusal::Threshold, &samples, Settings { second: f32::NEG_INFINITY, ..SETTINGS }, 128, right);
+    refused(Refusal::Index, &samples, SETTINGS, 127, right);
+    refused(Refusal::Index, &samples, SETTINGS, (1 << 63) + 1, right);
 }
 
 #[test]
 fn the_lowest_number_is_told() {
     let samples = window(&WORKED, 128);
     let bad = Settings { level: 3, threshold: f32::NAN, ..SETTINGS };
-    refused(Refusal::InputLength, &samples[1..], bad, 0, [0, 0, 0]);
-    refused(Refusal::OutputLength, &samples, bad, 0, [0, 0, 0]);
-    refused(Refusal::Level, &samples, bad, 0, [14, 8, 2]);
-    refused(Refusal::Threshold, &samples, Settings { level: 2, ..bad }, 0, [14, 8, 2]);
+    refused(Refusal::InputLength, &samples[1..], bad, 0, [-7, -8, -2]);
+    refused(Refusal::OutputLength, &samples, bad, 0, [-7, -8, -2]);
+    refused(Refusal::Level, &samples, bad, 0, [0, 0, 0]);
+    refused(Refusal::Threshold, &samples, Settings { level: 2, ..bad }, 0, [0, 0, 0]);
 }
 
 #[test]
@@ -191,7 +282,7 @@ fn a_line_is_written_or_left() {
 
 #[test]
 fn remainders() {
-    assert_eq!(remainder(&WORKED), 0);
+    assert_eq!((remainder(&WORKED), remainder(&SQUITTER)), (0, 0));
     assert_eq!(remainder(&[]), 0);
     let mut one = [0; MESSAGE];
     one[13] = 1;
@@ -213,19 +304,28 @@ fn headers() {
         assert_eq!(header(0x89, Repairs::One(far)), Err(Refusal::Position));
         assert_eq!(header(0x89, Repairs::Two(7, far)), Err(Refusal::Position));
     }
+    assert_eq!((header_short(0x58, Repairs::None), header(0x58, Repairs::None)), (Ok(true), Ok(false)));
+    assert_eq!((header_short(0x88, Repairs::None), header_short(0x59, Repairs::None)), (Ok(false), Ok(false)));
+    assert_eq!(header_short(0x59, Repairs::One(7)), Ok(true));
+    assert_eq!(header_short(0x59, Repairs::Two(7, 55)), Ok(true));
+    for far in [56, 111, 256 + 7, u32::MAX] {
+        assert_eq!(header_short(0x59, Repairs::One(far)), Err(Refusal::Position));
+        assert_eq!(header_short(0x59, Repairs::Two(7, far)), Err(Refusal::Position));
+    }
 }
 
 #[test]
 fn only_a_header_that_is_taken_claims_an_address() {
     for first in 0..=255 {
         let letter = match (first >> 3, first & 7) {
-            (17, 0 | 4..=7) | (18, 0) => "I",
+            (11 | 17, 0 | 4..=7) | (18, 0) => "I",
             (18, 5) => "X",
             (18, 2 | 3 | 6) => "?",
             _ => "-",
         };
         assert_eq!(address_kind(first).map_or("-".into(), |kind| kind.to_string()), letter, "{first:02X}");
-        assert!(address_kind(first).is_none() || header(first, Repairs::None) == Ok(true));
+        let taken = [header, header_short].map(|header| header(first, Repairs::None));
+        assert!(address_kind(first).is_none() || taken.contains(&Ok(true)));
         let mut message = WORKED;
         message[0] = first;
         let address = Answer { message, ..FOUND }.address().map_or("-".into(), |address| address.to_string());

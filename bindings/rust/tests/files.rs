@@ -115,24 +115,28 @@ fn a_file_is_read() {
     assert_eq!(numbers, (0..3 * WINDOW).map(|k| k as f32).collect::<Vec<_>>());
 }
 
+/// The line of a listing for a message of window k.
+fn line<const N: usize>(k: usize, found: &Answer<N>) -> String {
+    let bits = |x: f32| if x.is_nan() { 0x7FC0_0000 } else { x.to_bits() };
+    let Answer { index, fraction, repairs, slicer, cn0, .. } = *found;
+    let address = found.address().map_or("-".into(), |address| address.to_string());
+    let (avr, fraction, cn0) = (found.avr(), bits(fraction), bits(cn0));
+    format!("{k} {index} {fraction:08X} {avr} {address} {repairs} {slicer} {cn0:08X}\n")
+}
+
 #[test]
 fn the_samples_are_listed() {
     let folder = Path::new(env!("CARGO_MANIFEST_DIR")).join("../../samples");
-    let bits = |x: f32| if x.is_nan() { 0x7FC0_0000 } else { x.to_bits() };
-    for name in ["addresses", "listing", "noisy", "silent"] {
+    for name in ["addresses", "both", "listing", "noisy", "silent"] {
         let windows = Windows::new(std::fs::File::open(folder.join(name).with_extension("win")).unwrap()).unwrap();
         let settings = windows.settings();
         let mut text = format!("windows {}\n", windows.announced());
         for (k, window) in windows.enumerate() {
             let window = window.unwrap();
-            match decode(&window.samples, settings, window.index).unwrap() {
-                None => writeln!(text, "{k} none").unwrap(),
-                Some(found) => {
-                    let Answer { index, fraction, repairs, slicer, cn0, .. } = found;
-                    let address = found.address().map_or("-".into(), |address| address.to_string());
-                    let (avr, fraction, cn0) = (found.avr(), bits(fraction), bits(cn0));
-                    writeln!(text, "{k} {index} {fraction:08X} {avr} {address} {repairs} {slicer} {cn0:08X}").unwrap();
-                }
+            let BothAnswers { long, short } = decode_both(&window.samples, settings, window.index).unwrap();
+            match (long, short) {
+                (None, None) => writeln!(text, "{k} none").unwrap(),
+                _ => text.extend(long.map(|found| line(k, &found)).into_iter().chain(short.map(|found| line(k, &found)))),
             }
         }
         assert_eq!(text, std::fs::read_to_string(folder.join(name).with_extension("txt")).unwrap());

@@ -1,6 +1,6 @@
 -- The answer of a decode as rows of numbers in lent memory.
 -- Assumes nothing.
-use mathlib.Core.Bool.{cond}
+use mathlib.Core.Bool.{_&&_, cond}
 use mathlib.Core.List.{List, [], _∷_}
 use Prim.Native.Nat.{ℕ}
 use lib.Dec.{eqb}
@@ -9,11 +9,14 @@ use lib.Ieee.{Float}
 use Rattle.annex10.specs.declared.Repairs.{Repairs}
 use Rattle.annex10.specs.declared.Repairs.the-variants.{None, One, Two}
 use Rattle.annex10.specs.Repair.{count}
+use Rattle.place.specs.declared.Place.{Place}
 use Rattle.place.specs.declared.Slicer.{Slicer}
 use Rattle.place.specs.declared.Slicer.the-variants.{Coherent, Noncoherent}
 use Rattle.search.specs.declared.Settings.{Settings}
 use Rattle.search.specs.declared.Answer.{Answer}
-use Rattle.search.specs.Answers.{decodeOf}
+use Rattle.search.specs.Kinds.{Kind, long, short}
+use Rattle.search.specs.Answers.{orNumber, decodeOf}
+use Rattle.khlongrae.specs.declared.decode.FlatBoth.{FlatBoth}
 
 abbrev pub settingsOf : ℕ → Float → Float → ℕ → Settings
 settingsOf level threshold second distance = record { level = level; threshold = threshold; second = second; distance = distance }
@@ -35,31 +38,61 @@ slicerCode Coherent = 0
 slicerCode Noncoherent = 1
 
 -- index, bit offset, clock phase, symbol offset, how many repairs, the two positions, the slicer
+abbrev pub rowOf : ℕ → Place → Repairs → Slicer → List ℕ
+rowOf index p ρ slicer =
+    index ∷ p .bit ∷ p .phase ∷ p .symbol
+    ∷ count ρ ∷ firstOf ρ ∷ secondOf ρ ∷ slicerCode slicer ∷ []
+
 abbrev pub wordsOf : Answer → List ℕ
-wordsOf a =
-    a .index ∷ a .place .bit ∷ a .place .phase ∷ a .place .symbol
-    ∷ count (a .repairs) ∷ firstOf (a .repairs) ∷ secondOf (a .repairs) ∷ slicerCode (a .slicer) ∷ []
+wordsOf a = rowOf (a .index) (a .place) (a .repairs) (a .slicer)
 
 -- cn0 and the fraction
 abbrev pub numbersOf : Answer → List Float
 numbersOf a = a .cn0 ∷ a .fraction ∷ []
 
--- a number, and what the lent memory holds: message, whole numbers, floats
+-- lent memory: the bytes of a message, whole numbers, floats
+abbrev pub Lent : Type 0
+Lent = List ℕ × List ℕ × List Float
+
+-- a number, and what the lent memory holds
 abbrev pub Written : Type 0
 Written = ℕ × List ℕ × List ℕ × List Float
 
--- an answer with number 0 is written; any other number leaves the memory as it was
-unfoldable pub written : Answer → List ℕ → List ℕ → List Float → Written
-written a message words numbers = cond (eqb (a .number) 0) (0, a .message, wordsOf a, numbersOf a) (a .number, message, words, numbers)
+abbrev pub holding : ℕ → Lent → Written
+holding n (message, words, numbers) = (n, message, words, numbers)
 
--- THE DECODE INTO LENT MEMORY: a window has 2,310 numbers, else 2; the memory has 14, 8 and 2 elements, else 3
-unfoldable pub decodeInto : List Float → Settings → ℕ → List ℕ → List ℕ → List Float → Written
-decodeInto samples s index message words numbers =
-    cond (eqb (length samples) 2310)
-    (cond (eqb (length message) 14)
-    (cond (eqb (length words) 8)
-    (cond (eqb (length numbers) 2) (written (decodeOf samples s index) message words numbers)
-    (3, message, words, numbers))
-    (3, message, words, numbers))
-    (3, message, words, numbers))
-    (2, message, words, numbers)
+-- number 0 fills the memory; any other number leaves it as it was
+unfoldable pub filled : ℕ → Lent → Lent → Written
+filled n new old = holding n (cond (eqb n 0) new old)
+
+-- an answer in the memory
+abbrev pub written : Answer → Lent → Written
+written a old = filled (a .number) (a .message, wordsOf a, numbersOf a) old
+
+-- the same with a refusal before it
+unfoldable pub writtenOr : ℕ → Answer → Lent → Written
+writtenOr n a old = cond (eqb n 0) (written a old) (holding n old)
+
+-- a window has 2,310 numbers, else 2; the memory has so many bytes, 8 whole numbers and 2 floats, else 3
+unfoldable pub lentNumber : ℕ → List Float → Lent → ℕ
+lentNumber bytes samples (message, words, numbers) =
+    cond (eqb (length samples) 2310) (cond (eqb (length message) bytes && (eqb (length words) 8 && eqb (length numbers) 2)) 0 3) 2
+
+-- THE DECODE INTO LENT MEMORY
+unfoldable pub decodeInto : Kind → List Float → Settings → ℕ → Lent → Written
+decodeInto kind samples s index old = writtenOr (lentNumber (kind .bytes) samples old) (decodeOf kind samples s index) old
+
+-- ---- both kinds
+
+-- two numbers, and what the memory of either holds
+abbrev pub BothWritten : Type 0
+BothWritten = FlatBoth × List ℕ × List ℕ × List Float × List ℕ × List ℕ × List Float
+
+abbrev pub beside : Written → Written → BothWritten
+beside (n, m, w, x) (k, m', w', x') = (record { number = n; «short_number» = k }, m, w, x, m', w', x')
+
+-- THE DECODE OF BOTH KINDS INTO LENT MEMORY: what is refused of one is refused of both
+unfoldable pub bothInto : List Float → Settings → ℕ → Lent → Lent → BothWritten
+bothInto samples s index old other =
+    let n = orNumber (lentNumber (long .bytes) samples old) (lentNumber (short .bytes) samples other) in
+    beside (writtenOr n (decodeOf long samples s index) old) (writtenOr n (decodeOf short samples s index) other)

@@ -2,11 +2,11 @@
 ghost use mathlib.Core.Path.{_≡_};
 ghost use lib.ListN.{length};
 
-pub fn put_bytes(from: [u8; 14], to: &mut [u8])
-    requires { ⌜ length (now to) ≡ 14 ⌝ }
-    ensures { λ _. ⌜ now (to .exit) ≡ from ⌝ }
+pub fn put_bytes(from: &[u8], to: &mut [u8])
+    requires { ⌜ length (now to) ≡ length (now from) ⌝ }
+    ensures { λ _. ⌜ now (to .exit) ≡ now (from .entry) ⌝ }
 {
-    for i in 0..14 {
+    for i in 0..from.len() {
         to[i] = from[i];
     }
 }

@@ -1,10 +1,10 @@
 // An answer as rows of numbers.
 use annex10::Repairs;
 use choice::best::repairs_of;
+use place::Place;
 use place::Slicer;
-use search::Answer;
 ghost use mathlib.Core.Path.{_≡_};
-ghost use Rattle.khlongrae.specs.Flat.{firstOf, secondOf, slicerCode, wordsOf, numbersOf};
+ghost use Rattle.khlongrae.specs.Flat.{firstOf, secondOf, slicerCode, rowOf};
 
 fn first_of(repairs: Repairs) -> u64
     ensures { λ r. ⌜ r ≡ firstOf repairs ⌝ }
@@ -36,14 +36,11 @@ fn code_of(slicer: Slicer) -> u64
 }
 
 // Index, bit offset, clock phase, symbol offset, how many repairs, the two positions, the slicer.
-pub fn words_of(a: Answer) -> [u64; 8]
-    ensures { λ r. ⌜ r ≡ wordsOf a ⌝ }
+pub fn words_of(index: u64, place: Place, repairs: Repairs, slicer: Slicer) -> [u64; 8]
+    ensures { λ r. ⌜ r ≡ rowOf index place repairs slicer ⌝ }
 {
-    let place = a.place;
-    let repairs = a.repairs;
-    let slicer = a.slicer;
     [
-        a.index,
+        index,
         place.bit as u64,
         place.phase as u64,
         place.symbol as u64,
@@ -52,11 +49,4 @@ pub fn words_of(a: Answer) -> [u64; 8]
         second_of(repairs),
         code_of(slicer),
     ]
-}
-
-// cn0 and the fraction.
-pub fn numbers_of(a: Answer) -> [f32; 2]
-    ensures { λ r. ⌜ r ≡ numbersOf a ⌝ }
-{
-    [a.cn0, a.fraction]
 }

@@ -2,10 +2,14 @@
 use annex10::Repairs;
 use mode_s::header::Validity;
 use mode_s::header::header_is_valid;
+use mode_s::header::header_is_valid_short;
+use mode_s::message::MessageKind;
 ghost use mathlib.Core.Path.{_≡_};
+ghost use Prim.Native.Nat.{_*_, _≤_};
 ghost use Rattle.lists.specs.Told.{refused};
-ghost use Rattle.annex10.specs.Header.{longHeader};
-ghost use Rattle.mode_s.specs.Header.{headerOf};
+ghost use Rattle.mode_s.specs.Header.{validityTold, headerOf};
+ghost use Rattle.search.specs.Kinds.{long, short};
+ghost use Rattle.receiver.specs.Inner.{kindOf};
 ghost use Rattle.khlongrae.specs.Headers.{flatHeader, headerCheck};
 
 #[repr(C)]
@@ -20,10 +24,10 @@ fn refused(number: u32) -> FlatHeader
     FlatHeader { number, valid: 0 }
 }
 
-fn check(first: u8, repairs: Repairs) -> FlatHeader
-    ensures { λ r. ⌜ r ≡ flatHeader (headerOf 14 longHeader first repairs) ⌝ }
+fn flat(v: Validity) -> FlatHeader
+    ensures { λ r. ⌜ r ≡ flatHeader (validityTold v) ⌝ }
 {
-    match header_is_valid(first, repairs) {
+    match v {
         Validity::Valid => FlatHeader {
             number: 0,
             valid: 1,
@@ -36,26 +40,51 @@ fn check(first: u8, repairs: Repairs) -> FlatHeader
     }
 }
 
-// Whether the first byte of a 14-byte message is that of an extended squitter once `count` positions are repaired: none, j, or j
-// and k. Refused: 4 a count above 2, 8 a counted position above 111. The positions are wide, so that none is cut to a smaller one.
-#[no_mangle]
-pub extern "C" fn khlongrae_header(first: u8, count: u32, j: u32, k: u32) -> FlatHeader
-    ensures { λ r. ⌜ r ≡ flatHeader (headerCheck first count j k) ⌝ }
+fn check(kind: MessageKind, first: u8, repairs: Repairs) -> FlatHeader
+    ensures { λ r. ⌜ r ≡ flatHeader (headerOf (kindOf kind .bytes) (kindOf kind .header) first repairs) ⌝ }
+{
+    match kind {
+        MessageKind::Short => flat(header_is_valid_short(first, repairs)),
+        MessageKind::Long => flat(header_is_valid(first, repairs)),
+    }
+}
+
+// The check of a message of so many bits, with `count` positions.
+fn check_counted(kind: MessageKind, bits: u32, first: u8, count: u32, j: u32, k: u32) -> FlatHeader
+    requires { ⌜ (bits ≡ 8 * kindOf kind .bytes) × (bits ≤ 112) ⌝ }
+    ensures { λ r. ⌜ r ≡ flatHeader (headerCheck (kindOf kind) first count j k) ⌝ }
 {
     if count > 2 {
         return refused(4);
     }
     if count == 0 {
-        return check(first, Repairs::None);
+        return check(kind, first, Repairs::None);
     }
-    if j > 111 {
+    if j >= bits {
         return refused(8);
     }
     if count == 1 {
-        return check(first, Repairs::One(j as u8));
+        return check(kind, first, Repairs::One(j as u8));
     }
-    if k > 111 {
+    if k >= bits {
         return refused(8);
     }
-    check(first, Repairs::Two(j as u8, k as u8))
+    check(kind, first, Repairs::Two(j as u8, k as u8))
+}
+
+// Whether the first byte of a 14-byte message is that of an extended squitter once `count` positions are repaired: none, j, or j
+// and k. Refused: 4 a count above 2, 8 a counted position above 111. The positions are wide, so that none is cut to a smaller one.
+#[no_mangle]
+pub extern "C" fn khlongrae_header(first: u8, count: u32, j: u32, k: u32) -> FlatHeader
+    ensures { λ r. ⌜ r ≡ flatHeader (headerCheck long first count j k) ⌝ }
+{
+    check_counted(MessageKind::Long, 112, first, count, j, k)
+}
+
+// Whether that of a 7-byte message is that of an acquisition squitter. Refused: 4, and 8 a counted position above 55.
+#[no_mangle]
+pub extern "C" fn khlongrae_header_short(first: u8, count: u32, j: u32, k: u32) -> FlatHeader
+    ensures { λ r. ⌜ r ≡ flatHeader (headerCheck short first count j k) ⌝ }
+{
+    check_counted(MessageKind::Short, 56, first, count, j, k)
 }

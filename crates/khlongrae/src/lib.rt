@@ -5,6 +5,7 @@ pub mod decode;
 mod flat;
 pub mod header;
 pub mod message;
+mod settings;
 pub mod spectrum;
 pub mod version;
 mod written;

@@ -2,25 +2,79 @@
 use crate::copies::put_bytes;
 use crate::copies::put_numbers;
 use crate::copies::put_words;
-use crate::flat::numbers_of;
 use crate::flat::words_of;
 use search::Answer;
+use search::ShortAnswer;
 ghost use mathlib.Core.Path.{_≡_};
 ghost use lib.ListN.{length};
-ghost use Rattle.khlongrae.specs.Flat.{written};
+ghost use Rattle.search.specs.Short.{ofShort};
+ghost use Rattle.khlongrae.specs.Flat.{filled, written};
 
 // Only number 0 is written.
-pub fn write(a: Answer, message: &mut [u8], words: &mut [u64], numbers: &mut [f32]) -> u32
-    requires { ⌜ (length (now message) ≡ 14) × (length (now words) ≡ 8) × (length (now numbers) ≡ 2) ⌝ }
-    ensures { λ r. ⌜ (r, now (message .exit), now (words .exit), now (numbers .exit)) ≡ written a (now (message .entry)) (now (words .entry)) (now (numbers .entry)) ⌝ }
+fn fill(
+    number: u32,
+    found: &[u8],
+    row: [u64; 8],
+    pair: [f32; 2],
+    message: &mut [u8],
+    words: &mut [u64],
+    numbers: &mut [f32],
+) -> u32
+    requires { ⌜ (length (now message) ≡ length (now found)) × (length (now words) ≡ 8) × (length (now numbers) ≡ 2) ⌝ }
+    ensures { λ r. ⌜ (r, now (message .exit), now (words .exit), now (numbers .exit)) ≡ filled number (now (found .entry), row, pair) (now (message .entry), now (words .entry), now (numbers .entry)) ⌝ }
 {
-    let number = a.number;
     if number != 0 {
         return number;
     }
-    let found = a.message;
     put_bytes(found, message);
-    put_words(words_of(a), words);
-    put_numbers(numbers_of(a), numbers);
+    put_words(row, words);
+    put_numbers(pair, numbers);
     0
+}
+
+// An answer: number 0 with its message, words and numbers, or a number that leaves the memory as it was.
+pub fn write(a: Answer, message: &mut [u8], words: &mut [u64], numbers: &mut [f32]) -> u32
+    requires { ⌜ (length (now message) ≡ 14) × (length (now words) ≡ 8) × (length (now numbers) ≡ 2) ⌝ }
+    ensures { λ r. ⌜ (r, now (message .exit), now (words .exit), now (numbers .exit)) ≡ written a (now (message .entry), now (words .entry), now (numbers .entry)) ⌝ }
+{
+    let found = a.message;
+    let place = a.place;
+    let repairs = a.repairs;
+    let slicer = a.slicer;
+    let row = words_of(a.index, place, repairs, slicer);
+    fill(
+        a.number,
+        &found,
+        row,
+        [a.cn0, a.fraction],
+        message,
+        words,
+        numbers,
+    )
+}
+
+// That of a short message: the array makes it a type of its own.
+pub fn write_short(
+    a: ShortAnswer,
+    message: &mut [u8],
+    words: &mut [u64],
+    numbers: &mut [f32],
+) -> u32
+    requires { ⌜ (length (now message) ≡ 7) × (length (now words) ≡ 8) × (length (now numbers) ≡ 2) ⌝ }
+    ensures { λ r. ⌜ (r, now (message .exit), now (words .exit), now (numbers .exit)) ≡ written (ofShort a) (now (message .entry), now (words .entry), now (numbers .entry)) ⌝ }
+{
+    let found = a.message;
+    let place = a.place;
+    let repairs = a.repairs;
+    let slicer = a.slicer;
+    let row = words_of(a.index, place, repairs, slicer);
+    fill(
+        a.number,
+        &found,
+        row,
+        [a.cn0, a.fraction],
+        message,
+        words,
+        numbers,
+    )
 }

@@ -1,77 +1,17 @@
--- `khlongrae::header::khlongrae_header` meets its contract, exit by exit. Assumes nothing.
+-- `khlongrae::header::khlongrae_header` meets its contract. Assumes nothing.
+use mathlib.Core.Path.{refl}
 use native.Mathlib.Omega.{arith}
-use Rattle.khlongrae.proofs.Heads.{count-refused, none-checked, first-refused, one-checked, second-refused, two-checked}
 use borrow.Author.Needs.{needs}
+use Rattle.search.specs.Kinds.{long}
 use Rattle.khlongrae.proofs.header.khlongrae_header.Statement.{statement}
 use Rattle.khlongrae.proofs.header.khlongrae_header.Tie as tie
 
-refused-requires : tie.Need-refused-requires
-refused-requires c κs = search needs
+check-counted-requires : tie.Need-check-counted-requires
+unfolding long
+check-counted-requires c κs = (refl, omega arith)
 
 returns : tie.Need-returns
-returns c = count-refused _ _ _ _ (omega (arith, c .before .if1 .taken)) (c .refused .ensures)
-
-check-requires : tie.Need-check-requires
-check-requires c κs = search needs
-
-returns-2 : tie.Need-returns-2
-returns-2 c = none-checked _ _ _ _ (c .before .if2 .taken) (c .check .ensures)
-
-refused-requires-2 : tie.Need-refused-requires-2
-refused-requires-2 c κs = search needs
-
-returns-3 : tie.Need-returns-3
-returns-3 c =
-    let t = c .before in
-    first-refused _ _ _ _ (omega (arith, t .before .before .if1 .left)) (t .before .if2 .left) (t .if3 .taken) (c .refused2 .ensures)
-
-cast-t7 : tie.Need-cast-t7
-cast-t7 c = search needs
-
-check-requires-2 : tie.Need-check-requires-2
-check-requires-2 c κs = search needs
-
-returns-4 : tie.Need-returns-4
-returns-4 c = one-checked _ _ _ _ (c .before .if4 .taken) (c .check2 .ensures)
-
-refused-requires-3 : tie.Need-refused-requires-3
-refused-requires-3 c κs = search needs
-
-returns-5 : tie.Need-returns-5
-returns-5 c =
-    let t = c .before in
-    second-refused _ _ _ _ (omega (arith, t .before .before .before .before .if1 .left)) (t .before .before .before .if2 .left) (t .before .if4 .left) (t .if5 .taken) (c .refused3 .ensures)
-
-cast-t9 : tie.Need-cast-t9
-cast-t9 c = search needs
-
-cast-t10 : tie.Need-cast-t10
-cast-t10 c = search needs
-
-check-requires-3 : tie.Need-check-requires-3
-check-requires-3 c κs = search needs
-
-returns-6 : tie.Need-returns-6
-returns-6 c =
-    let t = c .before in
-    two-checked _ _ _ _ (omega (arith, t .before .before .before .before .if1 .left)) (t .before .before .before .if2 .left) (t .before .if4 .left) (c .check3 .ensures)
+returns c = search needs
 
 pub khlongrae-header-spec : {M : Type 1} → statement M
-khlongrae-header-spec =
-    tie.close
-    (tie.spec
-    refused-requires
-    returns
-    check-requires
-    returns-2
-    refused-requires-2
-    returns-3
-    cast-t7
-    check-requires-2
-    returns-4
-    refused-requires-3
-    returns-5
-    cast-t9
-    cast-t10
-    check-requires-3
-    returns-6)
+khlongrae-header-spec = tie.close (tie.spec check-counted-requires returns)

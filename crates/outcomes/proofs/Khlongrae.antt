@@ -6,7 +6,10 @@ use Rattle.outcomes.specs.Outcome.{Fixed, answer}
 use Rattle.outcomes.proofs.Law.{fixes, answer-set}
 use Rattle.khlongrae.proofs.address.khlongrae_address_kind as address-khlongrae-address-kind
 use Rattle.khlongrae.proofs.decode.khlongrae_decode as decode-khlongrae-decode
+use Rattle.khlongrae.proofs.decode.khlongrae_decode_short as decode-khlongrae-decode-short
+use Rattle.khlongrae.proofs.decode.khlongrae_decode_both as decode-khlongrae-decode-both
 use Rattle.khlongrae.proofs.header.khlongrae_header as header-khlongrae-header
+use Rattle.khlongrae.proofs.header.khlongrae_header_short as header-khlongrae-header-short
 use Rattle.khlongrae.proofs.message.khlongrae_avr as message-khlongrae-avr
 use Rattle.khlongrae.proofs.message.khlongrae_remainder as message-khlongrae-remainder
 use Rattle.khlongrae.proofs.spectrum.khlongrae_long_fft_max_search as spectrum-khlongrae-long-fft-max-search
@@ -25,9 +28,24 @@ decode-khlongrae-decode-fixed =
     fixes decode-khlongrae-decode.ended _ (answer-set decode-khlongrae-decode.ended) refl (λ κs. refl)
     (λ κs a r e. (r, now (e .1 .1 .1 .1 .1 .1 .0), now (e .1 .1 .1 .1 .1 .1 .1 .0), now (e .1 .1 .1 .1 .1 .1 .1 .1 .0))) (λ κs a y. (y .0, (tt, (tt, (tt, (tt, (tt, (tt, (y .1, (y .2, (y .3, tt))))))))))) (λ κs a r ws. refl)
 
+pub decode-khlongrae-decode-short-fixed : Fixed decode-khlongrae-decode-short.ended (answer _) (λ M 𝓤 H. decode-khlongrae-decode-short.clauses 𝓤 H) (λ M 𝓤 H. decode-khlongrae-decode-short.spec 𝓤 H)
+decode-khlongrae-decode-short-fixed =
+    fixes decode-khlongrae-decode-short.ended _ (answer-set decode-khlongrae-decode-short.ended) refl (λ κs. refl)
+    (λ κs a r e. (r, now (e .1 .1 .1 .1 .1 .1 .0), now (e .1 .1 .1 .1 .1 .1 .1 .0), now (e .1 .1 .1 .1 .1 .1 .1 .1 .0))) (λ κs a y. (y .0, (tt, (tt, (tt, (tt, (tt, (tt, (y .1, (y .2, (y .3, tt))))))))))) (λ κs a r ws. refl)
+
+pub decode-khlongrae-decode-both-fixed : Fixed decode-khlongrae-decode-both.ended (answer _) (λ M 𝓤 H. decode-khlongrae-decode-both.clauses 𝓤 H) (λ M 𝓤 H. decode-khlongrae-decode-both.spec 𝓤 H)
+decode-khlongrae-decode-both-fixed =
+    fixes decode-khlongrae-decode-both.ended _ (answer-set decode-khlongrae-decode-both.ended) refl (λ κs. refl)
+    (λ κs a r e. (r, now (e .1 .1 .1 .1 .1 .1 .0), now (e .1 .1 .1 .1 .1 .1 .1 .0), now (e .1 .1 .1 .1 .1 .1 .1 .1 .0), now (e .1 .1 .1 .1 .1 .1 .1 .1 .1 .0), now (e .1 .1 .1 .1 .1 .1 .1 .1 .1 .1 .0), now (e .1 .1 .1 .1 .1 .1 .1 .1 .1 .1 .1 .0))) (λ κs a y. (y .0, (tt, (tt, (tt, (tt, (tt, (tt, (y .1, (y .2, (y .3, (y .4, (y .5, (y .6, tt)))))))))))))) (λ κs a r ws. refl)
+
 pub header-khlongrae-header-fixed : Fixed header-khlongrae-header.ended (answer _) (λ M 𝓤 H. header-khlongrae-header.clauses 𝓤 H) (λ M 𝓤 H. header-khlongrae-header.spec 𝓤 H)
 header-khlongrae-header-fixed =
     fixes header-khlongrae-header.ended _ (answer-set header-khlongrae-header.ended) refl (λ κs. refl)
+    (λ κs a r e. r) (λ κs a y. (y, (tt, (tt, (tt, (tt, tt)))))) (λ κs a r ws. refl)
+
+pub header-khlongrae-header-short-fixed : Fixed header-khlongrae-header-short.ended (answer _) (λ M 𝓤 H. header-khlongrae-header-short.clauses 𝓤 H) (λ M 𝓤 H. header-khlongrae-header-short.spec 𝓤 H)
+header-khlongrae-header-short-fixed =
+    fixes header-khlongrae-header-short.ended _ (answer-set header-khlongrae-header-short.ended) refl (λ κs. refl)
     (λ κs a r e. r) (λ κs a y. (y, (tt, (tt, (tt, (tt, tt)))))) (λ κs a r ws. refl)
 
 pub message-khlongrae-avr-fixed : Fixed message-khlongrae-avr.ended (answer _) (λ M 𝓤 H. message-khlongrae-avr.clauses 𝓤 H) (λ M 𝓤 H. message-khlongrae-avr.spec 𝓤 H)

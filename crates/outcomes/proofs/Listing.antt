@@ -5,7 +5,7 @@ use Rattle.outcomes.specs.Outcome.{Fixed, answer}
 use Rattle.outcomes.proofs.Law.{fixes, answer-set}
 use Rattle.listing.proofs.lines.head_line as lines-head-line
 use Rattle.listing.proofs.lines.refused_line as lines-refused-line
-use Rattle.listing.proofs.lines.window_line as lines-window-line
+use Rattle.listing.proofs.lines.window_lines as lines-window-lines
 
 pub lines-head-line-fixed : Fixed lines-head-line.ended (answer _) (λ M 𝓤 H. lines-head-line.clauses 𝓤 H) (λ M 𝓤 H. lines-head-line.spec 𝓤 H)
 lines-head-line-fixed =
@@ -17,7 +17,7 @@ lines-refused-line-fixed =
     fixes lines-refused-line.ended _ (answer-set lines-refused-line.ended) refl (λ κs. refl)
     (λ κs a r e. r) (λ κs a y. (y, (tt, tt))) (λ κs a r ws. refl)
 
-pub lines-window-line-fixed : Fixed lines-window-line.ended (answer _) (λ M 𝓤 H. lines-window-line.clauses 𝓤 H) (λ M 𝓤 H. lines-window-line.spec 𝓤 H)
-lines-window-line-fixed =
-    fixes lines-window-line.ended _ (answer-set lines-window-line.ended) refl (λ κs. refl)
-    (λ κs a r e. r) (λ κs a y. (y, (tt, (tt, tt)))) (λ κs a r ws. refl)
+pub lines-window-lines-fixed : Fixed lines-window-lines.ended (answer _) (λ M 𝓤 H. lines-window-lines.clauses 𝓤 H) (λ M 𝓤 H. lines-window-lines.spec 𝓤 H)
+lines-window-lines-fixed =
+    fixes lines-window-lines.ended _ (answer-set lines-window-lines.ended) refl (λ κs. refl)
+    (λ κs a r e. r) (λ κs a y. (y, (tt, (tt, (tt, tt))))) (λ κs a r ws. refl)

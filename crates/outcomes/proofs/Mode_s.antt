@@ -12,6 +12,7 @@ use Rattle.mode_s.proofs.avr.format_avr as avr-format-avr
 use Rattle.mode_s.proofs.crc.crc24_step as crc-crc24-step
 use Rattle.mode_s.proofs.crc.crc24 as crc-crc24
 use Rattle.mode_s.proofs.header.header_is_valid as header-header-is-valid
+use Rattle.mode_s.proofs.header.header_is_valid_short as header-header-is-valid-short
 use Rattle.mode_s.proofs.header.address_kind as header-address-kind
 use Rattle.mode_s.proofs.message.ModeSMessage.short as message-ModeSMessage-short
 use Rattle.mode_s.proofs.message.ModeSMessage.long as message-ModeSMessage-long
@@ -46,6 +47,11 @@ crc-crc24-fixed =
 pub header-header-is-valid-fixed : Fixed header-header-is-valid.ended (answer _) (λ M 𝓤 H. header-header-is-valid.clauses 𝓤 H) (λ M 𝓤 H. header-header-is-valid.spec 𝓤 H)
 header-header-is-valid-fixed =
     fixes header-header-is-valid.ended _ (answer-set header-header-is-valid.ended) refl (λ κs. refl)
+    (λ κs a r e. validityTold r) (λ κs a y. (validityUntold y, (tt, (tt, tt)))) (λ κs a r ws. ap (λ x. (x, ws)) (validity-back r))
+
+pub header-header-is-valid-short-fixed : Fixed header-header-is-valid-short.ended (answer _) (λ M 𝓤 H. header-header-is-valid-short.clauses 𝓤 H) (λ M 𝓤 H. header-header-is-valid-short.spec 𝓤 H)
+header-header-is-valid-short-fixed =
+    fixes header-header-is-valid-short.ended _ (answer-set header-header-is-valid-short.ended) refl (λ κs. refl)
     (λ κs a r e. validityTold r) (λ κs a y. (validityUntold y, (tt, (tt, tt)))) (λ κs a r ws. ap (λ x. (x, ws)) (validity-back r))
 
 pub header-address-kind-fixed : Fixed header-address-kind.ended (answer _) (λ M 𝓤 H. header-address-kind.clauses 𝓤 H) (λ M 𝓤 H. header-address-kind.spec 𝓤 H)

@@ -6,9 +6,14 @@ use Rattle.outcomes.proofs.Law.{fixes, answer-set}
 use Rattle.receiver.proofs.Told.{attemptUntold, attempt-back}
 use Rattle.receiver.specs.Tries.{attemptTold}
 use Rattle.receiver.proofs.decode.read_place as decode-read-place
+use Rattle.receiver.proofs.decode.read_place_short as decode-read-place-short
 use Rattle.receiver.proofs.decode.find_best_decode_candidate as decode-find-best-decode-candidate
+use Rattle.receiver.proofs.decode.find_best_decode_candidate_short as decode-find-best-decode-candidate-short
 use Rattle.receiver.proofs.decode.time_message as decode-time-message
+use Rattle.receiver.proofs.decode.time_message_short as decode-time-message-short
 use Rattle.receiver.proofs.decode.decode as decode-decode
+use Rattle.receiver.proofs.decode.decode_short as decode-decode-short
+use Rattle.receiver.proofs.decode.decode_both as decode-decode-both
 use Rattle.receiver.proofs.trials.try_decode as trials-try-decode
 
 pub decode-read-place-fixed : Fixed decode-read-place.ended (answer _) (λ M 𝓤 H. decode-read-place.clauses 𝓤 H) (λ M 𝓤 H. decode-read-place.spec 𝓤 H)
@@ -16,9 +21,19 @@ decode-read-place-fixed =
     fixes decode-read-place.ended _ (answer-set decode-read-place.ended) refl (λ κs. refl)
     (λ κs a r e. r) (λ κs a y. (y, (tt, (tt, (tt, tt))))) (λ κs a r ws. refl)
 
+pub decode-read-place-short-fixed : Fixed decode-read-place-short.ended (answer _) (λ M 𝓤 H. decode-read-place-short.clauses 𝓤 H) (λ M 𝓤 H. decode-read-place-short.spec 𝓤 H)
+decode-read-place-short-fixed =
+    fixes decode-read-place-short.ended _ (answer-set decode-read-place-short.ended) refl (λ κs. refl)
+    (λ κs a r e. r) (λ κs a y. (y, (tt, (tt, (tt, tt))))) (λ κs a r ws. refl)
+
 pub decode-find-best-decode-candidate-fixed : Fixed decode-find-best-decode-candidate.ended (answer _) (λ M 𝓤 H. decode-find-best-decode-candidate.clauses 𝓤 H) (λ M 𝓤 H. decode-find-best-decode-candidate.spec 𝓤 H)
 decode-find-best-decode-candidate-fixed =
     fixes decode-find-best-decode-candidate.ended _ (answer-set decode-find-best-decode-candidate.ended) refl (λ κs. refl)
+    (λ κs a r e. r) (λ κs a y. (y, (tt, (tt, tt)))) (λ κs a r ws. refl)
+
+pub decode-find-best-decode-candidate-short-fixed : Fixed decode-find-best-decode-candidate-short.ended (answer _) (λ M 𝓤 H. decode-find-best-decode-candidate-short.clauses 𝓤 H) (λ M 𝓤 H. decode-find-best-decode-candidate-short.spec 𝓤 H)
+decode-find-best-decode-candidate-short-fixed =
+    fixes decode-find-best-decode-candidate-short.ended _ (answer-set decode-find-best-decode-candidate-short.ended) refl (λ κs. refl)
     (λ κs a r e. r) (λ κs a y. (y, (tt, (tt, tt)))) (λ κs a r ws. refl)
 
 pub decode-time-message-fixed : Fixed decode-time-message.ended (answer _) (λ M 𝓤 H. decode-time-message.clauses 𝓤 H) (λ M 𝓤 H. decode-time-message.spec 𝓤 H)
@@ -26,9 +41,24 @@ decode-time-message-fixed =
     fixes decode-time-message.ended _ (answer-set decode-time-message.ended) refl (λ κs. refl)
     (λ κs a r e. r) (λ κs a y. (y, (tt, (tt, (tt, (tt, tt)))))) (λ κs a r ws. refl)
 
+pub decode-time-message-short-fixed : Fixed decode-time-message-short.ended (answer _) (λ M 𝓤 H. decode-time-message-short.clauses 𝓤 H) (λ M 𝓤 H. decode-time-message-short.spec 𝓤 H)
+decode-time-message-short-fixed =
+    fixes decode-time-message-short.ended _ (answer-set decode-time-message-short.ended) refl (λ κs. refl)
+    (λ κs a r e. r) (λ κs a y. (y, (tt, (tt, (tt, (tt, tt)))))) (λ κs a r ws. refl)
+
 pub decode-decode-fixed : Fixed decode-decode.ended (answer _) (λ M 𝓤 H. decode-decode.clauses 𝓤 H) (λ M 𝓤 H. decode-decode.spec 𝓤 H)
 decode-decode-fixed =
     fixes decode-decode.ended _ (answer-set decode-decode.ended) refl (λ κs. refl)
+    (λ κs a r e. r) (λ κs a y. (y, (tt, (tt, (tt, tt))))) (λ κs a r ws. refl)
+
+pub decode-decode-short-fixed : Fixed decode-decode-short.ended (answer _) (λ M 𝓤 H. decode-decode-short.clauses 𝓤 H) (λ M 𝓤 H. decode-decode-short.spec 𝓤 H)
+decode-decode-short-fixed =
+    fixes decode-decode-short.ended _ (answer-set decode-decode-short.ended) refl (λ κs. refl)
+    (λ κs a r e. r) (λ κs a y. (y, (tt, (tt, (tt, tt))))) (λ κs a r ws. refl)
+
+pub decode-decode-both-fixed : Fixed decode-decode-both.ended (answer _) (λ M 𝓤 H. decode-decode-both.clauses 𝓤 H) (λ M 𝓤 H. decode-decode-both.spec 𝓤 H)
+decode-decode-both-fixed =
+    fixes decode-decode-both.ended _ (answer-set decode-decode-both.ended) refl (λ κs. refl)
     (λ κs a r e. r) (λ κs a y. (y, (tt, (tt, (tt, tt))))) (λ κs a r ws. refl)
 
 pub trials-try-decode-fixed : Fixed trials-try-decode.ended (answer _) (λ M 𝓤 H. trials-try-decode.clauses 𝓤 H) (λ M 𝓤 H. trials-try-decode.spec 𝓤 H)

@@ -7,6 +7,7 @@ use Rattle.outcomes.proofs.Law.{fixes, answer-set}
 use Rattle.repairs.proofs.single_bit_error_from_crc24 as repairs-single-bit-error-from-crc24
 use Rattle.repairs.proofs.double_bit_error_from_crc24 as repairs-double-bit-error-from-crc24
 use Rattle.repairs.proofs.rows.bit_errors_from_crc24s as rows-bit-errors-from-crc24s
+use Rattle.repairs.proofs.rows.bit_errors_from_crc24s_short as rows-bit-errors-from-crc24s-short
 
 pub repairs-single-bit-error-from-crc24-fixed : Fixed repairs-single-bit-error-from-crc24.ended (answer _) (λ M 𝓤 H. repairs-single-bit-error-from-crc24.clauses 𝓤 H) (λ M 𝓤 H. repairs-single-bit-error-from-crc24.spec 𝓤 H)
 repairs-single-bit-error-from-crc24-fixed =
@@ -21,4 +22,9 @@ repairs-double-bit-error-from-crc24-fixed =
 pub rows-bit-errors-from-crc24s-fixed : Fixed rows-bit-errors-from-crc24s.ended (answer _) (λ M 𝓤 H. rows-bit-errors-from-crc24s.clauses 𝓤 H) (λ M 𝓤 H. rows-bit-errors-from-crc24s.spec 𝓤 H)
 rows-bit-errors-from-crc24s-fixed =
     fixes rows-bit-errors-from-crc24s.ended _ (answer-set rows-bit-errors-from-crc24s.ended) refl (λ κs. refl)
+    (λ κs a r e. (r, now (e .1 .1 .0))) (λ κs a y. (y .0, (tt, (tt, (y .1, tt))))) (λ κs a r ws. refl)
+
+pub rows-bit-errors-from-crc24s-short-fixed : Fixed rows-bit-errors-from-crc24s-short.ended (answer _) (λ M 𝓤 H. rows-bit-errors-from-crc24s-short.clauses 𝓤 H) (λ M 𝓤 H. rows-bit-errors-from-crc24s-short.spec 𝓤 H)
+rows-bit-errors-from-crc24s-short-fixed =
+    fixes rows-bit-errors-from-crc24s-short.ended _ (answer-set rows-bit-errors-from-crc24s-short.ended) refl (λ κs. refl)
     (λ κs a r e. (r, now (e .1 .1 .0))) (λ κs a y. (y .0, (tt, (tt, (y .1, tt))))) (λ κs a r ws. refl)

@@ -1,51 +1,78 @@
-// An answer against the one in a record.
+// An answer against the one in a record: that of the long search stands from byte 248 on, that of the short one from byte 312 on.
 use crate::record::long_word;
 use crate::record::word;
 use annex10::Repairs;
 use place::Place;
 use place::Slicer;
 use search::Answer;
+use search::ShortAnswer;
 use words::float::bits_of;
+ghost use Prim.Native.Nat.{_≤_};
 
-fn same_place(r: &[u8; 312], p: Place) -> bool {
-    if word(r, 252) as usize != p.bit {
-        return false;
-    }
-    if word(r, 256) as usize != p.phase {
-        return false;
-    }
-    word(r, 260) as usize == p.symbol
+// What the answers of either kind have beside the message.
+struct Fields {
+    number: u32,
+    place: Place,
+    repairs: Repairs,
+    slicer: Slicer,
+    cn0: f32,
+    index: u64,
+    fraction: f32,
 }
 
-fn same_words(r: &[u8; 312], count: u32, first: u8, second: u8) -> bool {
-    if word(r, 264) != count {
+fn same_place(r: &[u8; 376], from: usize, p: Place) -> bool
+    requires { ⌜ from ≤ 312 ⌝ }
+{
+    if word(r, from + 4) as usize != p.bit {
         return false;
     }
-    if word(r, 268) != first as u32 {
+    if word(r, from + 8) as usize != p.phase {
         return false;
     }
-    word(r, 272) == second as u32
+    word(r, from + 12) as usize == p.symbol
 }
 
-fn same_repairs(r: &[u8; 312], repairs: Repairs) -> bool {
+fn same_words(r: &[u8; 376], from: usize, count: u32, first: u8, second: u8) -> bool
+    requires { ⌜ from ≤ 312 ⌝ }
+{
+    if word(r, from + 16) != count {
+        return false;
+    }
+    if word(r, from + 20) != first as u32 {
+        return false;
+    }
+    word(r, from + 24) == second as u32
+}
+
+fn same_repairs(r: &[u8; 376], from: usize, repairs: Repairs) -> bool
+    requires { ⌜ from ≤ 312 ⌝ }
+{
     match repairs {
-        Repairs::None => same_words(r, 0, 0, 0),
-        Repairs::One(j) => same_words(r, 1, j, 0),
-        Repairs::Two(j, k) => same_words(r, 2, j, k),
+        Repairs::None => same_words(r, from, 0, 0, 0),
+        Repairs::One(j) => same_words(r, from, 1, j, 0),
+        Repairs::Two(j, k) => same_words(r, from, 2, j, k),
     }
 }
 
-fn same_slicer(r: &[u8; 312], slicer: Slicer) -> bool {
+fn same_slicer(r: &[u8; 376], from: usize, slicer: Slicer) -> bool
+    requires { ⌜ from ≤ 312 ⌝ }
+{
     match slicer {
-        Slicer::Coherent => word(r, 276) == 0,
-        Slicer::Noncoherent => word(r, 276) == 1,
+        Slicer::Coherent => word(r, from + 28) == 0,
+        Slicer::Noncoherent => word(r, from + 28) == 1,
     }
 }
 
-fn same_message(r: &[u8; 312], message: [u8; 14]) -> bool {
+// A record has room for 14 bytes.
+fn same_message(r: &[u8; 376], from: usize, message: &[u8]) -> bool
+    requires { ⌜ from ≤ 312 ⌝ }
+{
+    if message.len() > 14 {
+        return false;
+    }
     let mut same = true;
-    for k in 0..14 {
-        if r[280 + k] != message[k] {
+    for k in 0..message.len() {
+        if r[from + 32 + k] != message[k] {
             same = false;
         }
     }
@@ -53,36 +80,71 @@ fn same_message(r: &[u8; 312], message: [u8; 14]) -> bool {
 }
 
 // 0 where every field is the same, else the first one that is not, from 1 on.
-pub fn difference(r: &[u8; 312], a: Answer) -> u32 {
+fn difference(r: &[u8; 376], from: usize, message: &[u8], a: Fields) -> u32
+    requires { ⌜ from ≤ 312 ⌝ }
+{
+    let place = a.place;
+    let repairs = a.repairs;
+    let slicer = a.slicer;
+    if word(r, from) != a.number {
+        return 1;
+    }
+    if !same_place(r, from, place) {
+        return 2;
+    }
+    if !same_message(r, from, message) {
+        return 3;
+    }
+    if !same_repairs(r, from, repairs) {
+        return 4;
+    }
+    if !same_slicer(r, from, slicer) {
+        return 5;
+    }
+    if word(r, from + 56) != bits_of(a.cn0) {
+        return 6;
+    }
+    if long_word(r, from + 48) != a.index {
+        return 7;
+    }
+    if word(r, from + 60) != bits_of(a.fraction) {
+        return 8;
+    }
+    0
+}
+
+pub fn long_difference(r: &[u8; 376], a: Answer) -> u32 {
     let place = a.place;
     let message = a.message;
     let repairs = a.repairs;
     let slicer = a.slicer;
-    if word(r, 248) != a.number {
-        return 1;
-    }
-    if !same_place(r, place) {
-        return 2;
-    }
-    if !same_message(r, message) {
-        return 3;
-    }
-    if !same_repairs(r, repairs) {
-        return 4;
-    }
-    if !same_slicer(r, slicer) {
-        return 5;
-    }
-    if word(r, 304) != bits_of(a.cn0) {
-        return 6;
-    }
-    if long_word(r, 296) != a.index {
-        return 7;
-    }
-    if word(r, 308) != bits_of(a.fraction) {
-        return 8;
-    }
-    0
+    let fields = Fields {
+        number: a.number,
+        place,
+        repairs,
+        slicer,
+        cn0: a.cn0,
+        index: a.index,
+        fraction: a.fraction,
+    };
+    difference(r, 248, &message, fields)
+}
+
+pub fn short_difference(r: &[u8; 376], a: ShortAnswer) -> u32 {
+    let place = a.place;
+    let message = a.message;
+    let repairs = a.repairs;
+    let slicer = a.slicer;
+    let fields = Fields {
+        number: a.number,
+        place,
+        repairs,
+        slicer,
+        cn0: a.cn0,
+        index: a.index,
+        fraction: a.fraction,
+    };
+    difference(r, 312, &message, fields)
 }
 
 pub fn print_field(field: u32) {

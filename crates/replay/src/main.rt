@@ -1,22 +1,24 @@
-// Replays the answers that the Rust gave, with the logarithm of the rules and trial 4's slip mended. Standard input holds their
-// count, and for each how its window is made and what was answered (tools/compare --record wrote it).
+// Replays the answers that the Rust gave, with the logarithm of the rules and trial 4's slip mended, and those of the rules, written down a
+// second time, for short messages. Standard input holds their count, and for each how its window is made and what was answered
+// (tools/compare --record wrote it).
 mod compare;
 mod make;
 mod record;
 
-use crate::compare::difference;
+use crate::compare::long_difference;
 use crate::compare::print_field;
+use crate::compare::short_difference;
 use crate::make::window;
 use crate::record::long_word;
 use crate::record::wide;
 use crate::record::word;
-use receiver::decode::decode;
-use search::Answer;
+use receiver::decode::decode_both;
+use search::BothAnswers;
 use search::Settings;
 use words::float::float_of;
 
-fn decoded(r: &[u8; 312], samples: &[f32; 2310]) -> Answer {
-    decode(
+fn decoded(r: &[u8; 376], samples: &[f32; 2310]) -> BothAnswers {
+    decode_both(
         samples,
         Settings {
             level: word(r, 0),
@@ -28,24 +30,39 @@ fn decoded(r: &[u8; 312], samples: &[f32; 2310]) -> Answer {
     )
 }
 
-// Whether the record is met. What is not the same is told.
-fn replay(r: &[u8; 312], k: u32) -> bool {
-    let samples = window(r);
-    let field = difference(r, decoded(r, &samples));
+// Whether a field is none. What is not the same is told.
+fn met(k: u32, short: bool, field: u32) -> bool {
     if field == 0 {
         return true;
     }
     io::write_all(1, b"window ");
     io::print_decimal(1, k as u64);
-    io::write_all(1, b": ");
+    if short {
+        io::write_all(1, b": short ");
+    } else {
+        io::write_all(1, b": ");
+    }
     print_field(field);
     io::write_all(1, b" disagrees\n");
     false
 }
 
+// Whether the record is met, by both searches.
+fn replay(r: &[u8; 376], k: u32) -> bool {
+    let samples = window(r);
+    let both = decoded(r, &samples);
+    let long = both.long;
+    let short = both.short;
+    let same = met(k, false, long_difference(r, long));
+    if !met(k, true, short_difference(r, short)) {
+        return false;
+    }
+    same
+}
+
 fn replay_next(k: u32) -> bool {
-    let mut r = [0u8; 312];
-    if io::read_full(0, &mut r) != 312 {
+    let mut r = [0u8; 376];
+    if io::read_full(0, &mut r) != 376 {
         io::write_all(1, b"the list is too short\n");
         return false;
     }

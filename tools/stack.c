@@ -1,4 +1,4 @@
-// How much stack a decode takes: a thread decodes on a stack that was filled with a pattern, and the lowest byte that
+// How much stack each decode takes: a thread decodes on a stack that was filled with a pattern, and the lowest byte that
 // changed is looked for. A thread that calls nothing is measured first, and taken off.
 #include "khlongrae.h"
 
@@ -10,25 +10,33 @@
 enum { NUMBERS = 2310, STACK = 1 << 20, PATTERN = 0xA5 };
 static float samples[NUMBERS];
 static uint8_t *stack;
-static int call;
-static uint32_t found, last;
+static enum call { NOTHING, LONG, SHORT, BOTH, CALLS } call;
+static const char *const NAMES[CALLS] = {"nothing", "a long decode", "a short decode", "a decode of both"};
+static unsigned found[CALLS];
 
 static void *run(void *unused) {
+    static uint8_t message[14], short_message[7];
+    static uint64_t words[8], short_words[8];
+    static float numbers[2], short_numbers[2];
+    struct khlongrae_both_answer both = {1, 1};
     (void)unused;
-    if (call) {
-        uint8_t message[14];
-        uint64_t words[8];
-        float numbers[2];
-        last = khlongrae_decode(samples, NUMBERS, 2, 0.0f, 0.0f, 112, 128, message, 14, words, 8, numbers, 2);
-        found += last == 0;
+    switch (call) {
+    case LONG: both.number = khlongrae_decode(samples, NUMBERS, 2, 0.0f, 0.0f, 112, 128, message, 14, words, 8, numbers, 2); break;
+    case SHORT: both.number = khlongrae_decode_short(samples, NUMBERS, 2, 0.0f, 0.0f, 112, 128, message, 7, words, 8, numbers, 2); break;
+    case BOTH:
+        both = khlongrae_decode_both(samples, NUMBERS, 2, 0.0f, 0.0f, 112, 128, message, 14, words, 8, numbers, 2, short_message, 7,
+                                     short_words, 8, short_numbers, 2);
+        break;
+    default: break;
     }
+    found[call] += both.number == 0 || both.short_number == 0;
     return NULL;
 }
 
-static size_t used(int with_call) {
+static size_t used(enum call asked) {
     pthread_attr_t attributes;
     pthread_t thread;
-    call = with_call;
+    call = asked;
     memset(stack, PATTERN, STACK);
     pthread_attr_init(&attributes);
     if (pthread_attr_setstack(&attributes, stack, STACK) || pthread_create(&thread, &attributes, run, NULL)) exit(2);
@@ -39,29 +47,46 @@ static size_t used(int with_call) {
 }
 
 // a pulse in the first half of each bit that is 1, in the second half of each that is 0, from a sample on
-static void send(const uint8_t *message, int from) {
-    memset(samples, 0, sizeof samples);
-    for (int j = 0; j < 112; j++) {
+static void send(const uint8_t *message, int bytes, int from) {
+    for (int j = 0; j < 8 * bytes; j++) {
         int half = message[j / 8] >> (7 - j % 8) & 1 ? 0 : 4;
         for (int k = 0; k < 4; k++) samples[2 * (from + 8 * j + half + k)] = 1.0f;
     }
 }
 
+static void damage(uint8_t *message, int bit) { message[bit / 8] ^= 0x80 >> bit % 8; }
+
 int main(void) {
     static const uint8_t clean[14] = {0x88, 0x07, 0x76, 0xAC};
-    uint8_t damaged[14];
-    size_t most = 0, idle;
+    static const uint8_t squitter[7] = {0x5D, 0x48, 0x40, 0xD6, 0xF8, 0x74, 0x0F};
+    size_t most[CALLS] = {0}, idle;
+    int wrong = 0;
     if (posix_memalign((void **)&stack, 4096, STACK)) return 2;
-    idle = used(0);
-    // a clean message, each pair of neighbouring bits damaged, and noise: all trials are made and both lookups
-    for (int w = 0; w < 300; w++) {
+    idle = used(NOTHING);
+    // a clean message, each pair of neighbouring bits damaged, a short one with each bit damaged, and noise: all trials are made and
+    // all lookups
+    for (int w = 0; w < 400; w++) {
+        uint8_t damaged[14], shorter[7];
         memcpy(damaged, clean, 14);
-        if (w > 0 && w < 112) damaged[w / 8] ^= 0x80 >> w % 8, damaged[(w - 1) / 8] ^= 0x80 >> (w - 1) % 8;
-        send(damaged, 128);
-        if (w >= 112) for (int k = 0; k < NUMBERS; k++) samples[k] = (float)rand() / (float)RAND_MAX - 0.5f;
-        size_t now = used(1);
-        if (now > most) most = now;
+        memcpy(shorter, squitter, 7);
+        memset(samples, 0, sizeof samples);
+        if (w < 112) {
+            if (w > 0) damage(damaged, w), damage(damaged, w - 1);
+            send(damaged, 14, 128);
+        } else if (w < 200) {
+            if (w < 168) damage(shorter, w - 112);
+            send(shorter, 7, 3 * w);
+        } else {
+            for (int k = 0; k < NUMBERS; k++) samples[k] = (float)rand() / (float)RAND_MAX - 0.5f;
+        }
+        for (enum call c = LONG; c < CALLS; c++) {
+            size_t now = used(c);
+            if (now > most[c]) most[c] = now;
+        }
     }
-    printf("stack: %zu bytes at most over 300 windows (%u with a message), of 65536\n", most - idle, found);
-    return found < 100 || most - idle >= 65536;
+    for (enum call c = LONG; c < CALLS; c++) {
+        printf("stack: %s takes %zu bytes at most over 400 windows (%u with a message), of 65536\n", NAMES[c], most[c] - idle, found[c]);
+        wrong |= found[c] < 80 || most[c] - idle >= 65536;
+    }
+    return wrong;
 }

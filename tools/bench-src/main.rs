@@ -1,16 +1,13 @@
 //! The proved decoder and the published Rust on the same windows, in turn. Built and run by tools/bench.
+#[path = "../compare-src/counts.rs"]
+mod counts;
 mod kinds;
-// The library's functions are declared once, for its callers in Rust.
-#[allow(dead_code)]
-#[path = "../../bindings/rust/src/raw.rs"]
-mod raw;
 #[path = "../compare-src/recipe.rs"]
 mod recipe;
 #[path = "../compare-src/rules.rs"]
 mod rules;
-#[path = "../compare-src/counts.rs"]
-mod counts;
 
+use kinds::Windows;
 use rules::Settings;
 use std::hint::black_box;
 use std::time::Instant;
@@ -20,43 +17,114 @@ const INDEX: u64 = 128_000;
 /// Who decodes: each has its windows at hand, and answers whether window i holds a message.
 type Decoder = Box<dyn FnMut(usize) -> bool>;
 
-type Decode =
-    unsafe extern "C" fn(*const f32, usize, u32, f32, f32, u32, u64, *mut u8, usize, *mut u64, usize, *mut f32, usize) -> u32;
+/// The numbers of a decode of both kinds.
+#[repr(C)]
+#[derive(Clone, Copy)]
+struct Numbers {
+    long: u32,
+    short: u32,
+}
+
+/// Samples, settings, index, and the memory that is lent for one message: bytes, whole numbers, floats.
+macro_rules! decode {
+    ($name:ident) => {
+        fn $name(
+            samples: *const f32,
+            samples_len: usize,
+            level: u32,
+            threshold: f32,
+            second: f32,
+            distance: u32,
+            index: u64,
+            message: *mut u8,
+            message_len: usize,
+            words: *mut u64,
+            words_len: usize,
+            floats: *mut f32,
+            floats_len: usize,
+        ) -> u32;
+    };
+}
+/// The same with memory for a second one.
+macro_rules! decode_both {
+    ($name:ident) => {
+        fn $name(
+            samples: *const f32,
+            samples_len: usize,
+            level: u32,
+            threshold: f32,
+            second: f32,
+            distance: u32,
+            index: u64,
+            message: *mut u8,
+            message_len: usize,
+            words: *mut u64,
+            words_len: usize,
+            floats: *mut f32,
+            floats_len: usize,
+            short_message: *mut u8,
+            short_message_len: usize,
+            short_words: *mut u64,
+            short_words_len: usize,
+            short_floats: *mut f32,
+            short_floats_len: usize,
+        ) -> Numbers;
+    };
+}
 
 /// For any processor of this kind, as it is shipped.
 #[link(name = "khlongrae", kind = "static")]
-unsafe extern "C" {}
+unsafe extern "C" {
+    decode!(khlongrae_decode);
+    decode!(khlongrae_decode_short);
+    decode_both!(khlongrae_decode_both);
+}
 
 /// For this machine's own processor: tools/bench has put native_ before each name.
 #[link(name = "khlongrae_native", kind = "static")]
 unsafe extern "C" {
-    fn native_khlongrae_decode(
-        samples: *const f32,
-        samples_len: usize,
-        level: u32,
-        threshold: f32,
-        second: f32,
-        distance: u32,
-        index: u64,
-        message: *mut u8,
-        message_len: usize,
-        words: *mut u64,
-        words_len: usize,
-        numbers: *mut f32,
-        numbers_len: usize,
-    ) -> u32;
+    decode!(native_khlongrae_decode);
+    decode!(native_khlongrae_decode_short);
+    decode_both!(native_khlongrae_decode_both);
 }
 
-fn khlongrae(decode: Decode, windows: &[Vec<f32>], s: Settings) -> Decoder {
-    let windows = windows.to_vec();
-    let (mut message, mut words, mut numbers) = ([0; 14], [0; 8], [0.0; 2]);
-    Box::new(move |i| {
-        let x = black_box(&windows[i]);
-        let (m, w, n) = (message.as_mut_ptr(), words.as_mut_ptr(), numbers.as_mut_ptr());
-        unsafe { decode(x.as_ptr(), x.len(), s.level, s.threshold, s.second, s.distance, INDEX, m, 14, w, 8, n, 2) == 0 }
-    })
+/// Another archive of the library, where tools/bench was given one: before_ stands before each name.
+#[cfg(before)]
+#[link(name = "khlongrae_before", kind = "static")]
+unsafe extern "C" {
+    decode!(before_khlongrae_decode);
 }
 
+/// A decode of messages of so many bytes.
+macro_rules! one {
+    ($decode:ident, $bytes:literal, $windows:expr, $s:expr) => {{
+        let (windows, s) = ($windows.to_vec(), $s);
+        let (mut message, mut words, mut floats) = ([0; $bytes], [0; 8], [0.0; 2]);
+        Box::new(move |i: usize| {
+            let x: &Vec<f32> = black_box(&windows[i]);
+            let (m, w, f) = (message.as_mut_ptr(), words.as_mut_ptr(), floats.as_mut_ptr());
+            unsafe { $decode(x.as_ptr(), x.len(), s.level, s.threshold, s.second, s.distance, INDEX, m, $bytes, w, 8, f, 2) == 0 }
+        }) as Decoder
+    }};
+}
+/// One of both kinds.
+macro_rules! two {
+    ($decode:ident, $windows:expr, $s:expr) => {{
+        let (windows, s) = ($windows.to_vec(), $s);
+        let (mut message, mut words, mut floats) = ([0; 14], [0; 8], [0.0; 2]);
+        let (mut short, mut short_words, mut short_floats) = ([0; 7], [0; 8], [0.0; 2]);
+        Box::new(move |i: usize| {
+            let x: &Vec<f32> = black_box(&windows[i]);
+            let (m, w, f) = (message.as_mut_ptr(), words.as_mut_ptr(), floats.as_mut_ptr());
+            let (n, v, g) = (short.as_mut_ptr(), short_words.as_mut_ptr(), short_floats.as_mut_ptr());
+            let (x, len) = (x.as_ptr(), x.len());
+            let both = unsafe {
+                $decode(x, len, s.level, s.threshold, s.second, s.distance, INDEX, m, 14, w, 8, f, 2, n, 7, v, 8, g, 2)
+            };
+            both.long == 0 || both.short == 0
+        }) as Decoder
+    }};
+}
 /// The Rust keeps a window in its receiver: one receiver for each.
 macro_rules! rust {
     ($oracle:ident, $windows:expr, $s:expr) => {{
@@ -75,11 +143,19 @@ macro_rules! rust {
 
 /// The last may order its sums anew: the others all find the same messages.
 const NAMES: [&str; 5] = ["khlongrae", "khlongrae-native", "rust", "rust-native", "rust-algebraic"];
+/// The searches: as shipped, then for this machine's own processor.
+const SEARCHES: [&str; 6] = ["khlongrae", "short", "both", "khlongrae-native", "short-native", "both-native"];
 
 fn decoder(who: &str, windows: &[Vec<f32>], s: Settings) -> Decoder {
     match who {
-        "khlongrae" => khlongrae(raw::khlongrae_decode, windows, s),
-        "khlongrae-native" => khlongrae(native_khlongrae_decode, windows, s),
+        "khlongrae" => one!(khlongrae_decode, 14, windows, s),
+        "khlongrae-native" => one!(native_khlongrae_decode, 14, windows, s),
+        "short" => one!(khlongrae_decode_short, 7, windows, s),
+        "short-native" => one!(native_khlongrae_decode_short, 7, windows, s),
+        "both" => two!(khlongrae_decode_both, windows, s),
+        "both-native" => two!(native_khlongrae_decode_both, windows, s),
+        #[cfg(before)]
+        "before" => one!(before_khlongrae_decode, 14, windows, s),
         "rust" => rust!(oracle_a, windows, s),
         "rust-native" => rust!(oracle_n, windows, s),
         "rust-algebraic" => rust!(oracle_g, windows, s),
@@ -107,18 +183,18 @@ fn median(mut xs: Vec<f64>) -> f64 {
     xs[xs.len() / 2]
 }
 
-/// One line a kind and level: the median time of each decoder.
-fn table(rounds: usize, micros: f64) {
-    for (name, windows, settings) in kinds::all(8) {
+/// One line a kind and level: the median time of each decoder. `agrees` holds of what each finds, window by window.
+fn table(names: &[&str], kinds: Vec<Windows>, rounds: usize, micros: f64, agrees: impl Fn(&[Vec<bool>]) -> bool) {
+    for Windows { name, samples, settings } in kinds {
         for level in 0..3 {
             let s = Settings { level, ..settings };
-            let mut decoders: Vec<Decoder> = NAMES.iter().map(|who| decoder(who, &windows, s)).collect();
-            let found: Vec<usize> = decoders.iter_mut().map(|d| (0..windows.len()).filter(|&i| d(i)).count()).collect();
-            assert!(found[..NAMES.len() - 1].iter().all(|&n| n == found[0]), "{name}: the decoders find {found:?} messages");
-            let mut times = vec![vec![]; NAMES.len()];
+            let mut decoders: Vec<Decoder> = names.iter().map(|who| decoder(who, &samples, s)).collect();
+            let found: Vec<Vec<bool>> = decoders.iter_mut().map(|d| (0..samples.len()).map(|i| d(i)).collect()).collect();
+            assert!(agrees(&found), "{name}: the decoders find messages in {found:?}");
+            let mut times = vec![vec![]; names.len()];
             for _ in 0..rounds {
                 for (d, t) in decoders.iter_mut().zip(&mut times) {
-                    t.push(time(d, windows.len(), micros));
+                    t.push(time(d, samples.len(), micros));
                 }
             }
             let medians: Vec<String> = times.into_iter().map(|t| format!("{:.4}", median(t))).collect();
@@ -127,11 +203,24 @@ fn table(rounds: usize, micros: f64) {
     }
 }
 
+fn all_but_last(found: &[Vec<bool>]) -> bool {
+    found[..found.len() - 1].iter().all(|f| *f == found[0])
+}
+
+fn same(found: &[Vec<bool>]) -> bool {
+    found.iter().all(|f| *f == found[0])
+}
+
+/// Both find something where one of the two does.
+fn pairs(found: &[Vec<bool>]) -> bool {
+    found.chunks(3).all(|f| (0..f[0].len()).all(|i| f[2][i] == (f[0][i] || f[1][i])))
+}
+
 /// The whole time of n different windows, as shipped.
 fn line(rounds: usize) {
-    let (_, windows, settings) = kinds::all(1000).into_iter().find(|k| k.0 == "message").unwrap();
+    let Windows { samples, settings, .. } = kinds::all(1000).into_iter().find(|k| k.name == "message").unwrap();
     for n in [1, 8, 64, 1000] {
-        let mut d = decoder("khlongrae", &windows[..n], Settings { level: 2, ..settings });
+        let mut d = decoder("khlongrae", &samples[..n], Settings { level: 2, ..settings });
         let times = (0..rounds).map(|_| {
             let began = Instant::now();
             for i in 0..n {
@@ -145,8 +234,9 @@ fn line(rounds: usize) {
 
 /// The eight windows of a kind once over, n times: for a count of instructions.
 fn repeat(name: &str, who: &str, n: usize) {
-    let Some((_, windows, settings)) = kinds::all(8).into_iter().find(|k| k.0 == name) else { stop() };
-    let mut d = decoder(who, &windows, Settings { level: 2, ..settings });
+    let mut kinds = kinds::all(8).into_iter().chain(kinds::searched(8));
+    let Some(Windows { samples, settings, .. }) = kinds.find(|k| k.name == name) else { stop() };
+    let mut d = decoder(who, &samples, Settings { level: 2, ..settings });
     for _ in 0..n {
         for i in 0..8 {
             black_box(d(i));
@@ -156,7 +246,7 @@ fn repeat(name: &str, who: &str, n: usize) {
 
 /// A wrong call: one line, status 2.
 fn stop() -> ! {
-    eprintln!("bench: table ROUNDS MICROS, line ROUNDS or repeat KIND WHO N, each number from 1");
+    eprintln!("bench: table, searches or before ROUNDS MICROS, line ROUNDS or repeat KIND WHO N, each number from 1");
     std::process::exit(2)
 }
 
@@ -164,7 +254,9 @@ fn main() {
     let words: Vec<String> = std::env::args().skip(1).collect();
     let number = |word: &str| word.parse::<usize>().ok().filter(|&n| n > 0).unwrap_or_else(|| stop());
     match words.iter().map(String::as_str).collect::<Vec<_>>()[..] {
-        ["table", rounds, micros] => table(number(rounds), number(micros) as f64),
+        ["table", rounds, micros] => table(&NAMES, kinds::all(8), number(rounds), number(micros) as f64, all_but_last),
+        ["searches", rounds, micros] => table(&SEARCHES, kinds::searched(8), number(rounds), number(micros) as f64, pairs),
+        ["before", rounds, micros] => table(&["before", "khlongrae"], kinds::all(8), number(rounds), number(micros) as f64, same),
         ["line", rounds] => line(number(rounds)),
         ["repeat", kind, who, n] => repeat(kind, who, number(n)),
         _ => stop(),

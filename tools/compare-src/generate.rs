@@ -1,7 +1,7 @@
-//! Windows of every kind.
+//! Windows of every kind. One in three holds short messages.
 use crate::counts::Counts;
 use crate::recipe::{Plant, Random, Recipe, Shape};
-use crate::rules::{self, Answer, Settings, Tables, Window, at, bytes_of, header};
+use crate::rules::{self, Answer, Both, SHORT, Settings, Tables, Window, at, bytes_of, divided};
 
 pub const NAMES: &[&str] = &[
     "window: planted at four samples in a row",
@@ -9,12 +9,24 @@ pub const NAMES: &[&str] = &[
     "window: full pulses, one message",
     "window: full pulses, two messages",
     "window: near tie",
+    "window: two messages, a NaN in one",
     "window: a message in noise",
     "window: two messages in noise",
     "window: pure noise",
     "window: random patterns",
     "window: one value throughout",
     "window: two values in turn",
+    "window: short, planted at four samples in a row",
+    "window: short, thin pulses",
+    "window: short, full pulses, one plant",
+    "window: short, full pulses, two plants",
+    "window: short, near tie",
+    "window: two short messages, a NaN in one",
+    "window: a short message inside a long one",
+    "window: a reply to an interrogator",
+    "window: a short message in noise",
+    "window: two short messages in noise",
+    "window: a long and a short message in noise",
     "has NaN",
     "has infinities",
     "has subnormals",
@@ -32,6 +44,8 @@ pub struct Made {
     pub index: u64,
     pub recipe: Option<Recipe>,
     pub adjusted: bool,
+    /// The code of the interrogator that is replied to, and the squitter that the reply would be without it.
+    pub reply: Option<(u8, [u8; 14])>,
 }
 
 const SPECIALS: [u32; 20] = [
@@ -62,34 +76,43 @@ fn random_message(r: &mut Random) -> u128 {
 }
 /// A message whose remainder is 0, with a header that is taken or not.
 fn whole(r: &mut Random, t: &Tables, taken: bool) -> u128 {
+    let formats = t.kind.headers;
     let first = loop {
-        let first = if taken || r.often(2) { 0x88 + r.below(15) as u8 } else { r.word() as u8 };
-        if header(first) == taken {
+        let near = 8 * formats[0].0 + r.below(8 * formats.len()) as u8;
+        let first = if taken || r.often(2) { near } else { r.word() as u8 };
+        if t.kind.header(first) == taken {
             break first;
         }
     };
-    // Behind 88 bits stands the remainder of these bits.
-    let body = random_message(r) >> 24 & ((1 << 80) - 1) | u128::from(first) << 80;
-    body << 24 | u128::from(t.remainder(body))
+    ended(t, random_message(r) >> 8 | u128::from(first) << 104)
 }
-fn errors(r: &mut Random, count: usize) -> u128 {
+/// A message of these bits but for the last 24: there stands the remainder of those before them.
+fn ended(t: &Tables, message: u128) -> u128 {
+    let body = message >> (112 - t.kind.bits) >> 24;
+    t.kind.message(body << 24 | u128::from(divided(body)))
+}
+fn errors(r: &mut Random, t: &Tables, count: usize) -> u128 {
     let mut e: u128 = 0;
     while (e.count_ones() as usize) < count {
-        // The first byte and the last bits more often than the rest.
-        e |= at(if r.often(4) { r.below(8) } else { r.below(112) });
+        // The first byte more often than the rest.
+        e |= at(if r.often(4) { r.below(8) } else { r.below(t.kind.bits) });
     }
     e
 }
 fn string(r: &mut Random, t: &Tables) -> u128 {
+    if t.kind.bits == SHORT.bits && r.often(8) {
+        let code = 1 + r.below(127);
+        return whole(r, t, true) ^ t.kind.message(code as u128);
+    }
     match r.below(12) {
-        0 => random_message(r),
+        0 => t.kind.message(random_message(r) >> (112 - t.kind.bits)),
         1 => whole(r, t, true),
         2 => whole(r, t, false),
-        3 | 4 => whole(r, t, true) ^ errors(r, 1),
-        5 => whole(r, t, false) ^ errors(r, 1),
-        6 | 7 | 8 => whole(r, t, true) ^ errors(r, 2),
-        9 | 10 => whole(r, t, false) ^ errors(r, 2),
-        _ => whole(r, t, true) ^ errors(r, 3),
+        3 | 4 => whole(r, t, true) ^ errors(r, t, 1),
+        5 => whole(r, t, false) ^ errors(r, t, 1),
+        6 | 7 | 8 => whole(r, t, true) ^ errors(r, t, 2),
+        9 | 10 => whole(r, t, false) ^ errors(r, t, 2),
+        _ => whole(r, t, true) ^ errors(r, t, 3),
     }
 }
 /// What the two slicers are to read at a place.
@@ -101,25 +124,25 @@ fn strings(r: &mut Random, t: &Tables) -> (u128, u128) {
         // Some bits apart.
         2 => {
             let count = 1 + r.below(14);
-            (one ^ errors(r, count), one)
+            (one ^ errors(r, t, count), one)
         }
         3 => {
             let count = 1 + r.below(14);
-            (one, one ^ errors(r, count))
+            (one, one ^ errors(r, t, count))
         }
         // Two messages with the same errors: the remainders are equal.
         4 => {
             let count = 1 + r.below(2);
-            let (e, taken) = (errors(r, count), r.often(2));
+            let (e, taken) = (errors(r, t, count), r.often(2));
             (whole(r, t, false) ^ e, whole(r, t, taken) ^ e)
         }
         // Trial 4 with a bad header before trial 5 or 6.
-        5 => (whole(r, t, true) ^ errors(r, 2), whole(r, t, false) ^ errors(r, 1)),
-        6 => (whole(r, t, true) ^ errors(r, 2), whole(r, t, true) ^ errors(r, 2)),
+        5 => (whole(r, t, true) ^ errors(r, t, 2), whole(r, t, false) ^ errors(r, t, 1)),
+        6 => (whole(r, t, true) ^ errors(r, t, 2), whole(r, t, true) ^ errors(r, t, 2)),
         // Trial 6, at a distance.
         7 | 8 => {
-            let (noncoherent, count) = (whole(r, t, true) ^ errors(r, 2), 3 + r.below(14));
-            (noncoherent ^ errors(r, count), noncoherent)
+            let (noncoherent, count) = (whole(r, t, true) ^ errors(r, t, 2), 3 + r.below(14));
+            (noncoherent ^ errors(r, t, count), noncoherent)
         }
         _ => (one, string(r, t)),
     }
@@ -174,10 +197,35 @@ fn stores(r: &mut Random, start: u32) -> Vec<(u32, u32)> {
         })
         .collect()
 }
+/// A plant's 112 bits with these of a short message somewhere among them: beside them another one, any bits, or zeros.
+fn around(r: &mut Random, t: &Tables, start: u32, short: (u128, u128)) -> (u128, u128) {
+    // The first place of a window is read from the first bit of an early plant, the last one from bit 56 of a late plant.
+    let near = if start < 128 { 0 } else { 56 };
+    let offset = match r.below(4) {
+        0 | 1 => near,
+        2 => 56 - near,
+        _ => r.below(57),
+    };
+    let put = |rest: u128, short: u128, offset: usize| rest & !(u128::from(u64::MAX >> 8) << (56 - offset)) | short >> offset;
+    let mut rest = if r.often(4) { (0, 0) } else { [random_message(r); 2].into() };
+    if offset % 56 == 0 && r.often(2) {
+        let other = strings(r, t);
+        rest = (put(rest.0, other.0, 56 - offset), put(rest.1, other.1, 56 - offset));
+    }
+    (put(rest.0, short.0, offset), put(rest.1, short.1, offset))
+}
 fn plant(r: &mut Random, t: &Tables, start: u32) -> Plant {
-    let (coherent, noncoherent) = strings(r, t);
+    let mut both = strings(r, t);
+    if t.kind.bits == SHORT.bits {
+        both = around(r, t, start, both);
+    }
     let amplitude = r.pick(&[1.0, 1.0, 2.0, 3.0, 4.0, 8.0]);
-    Plant { start, amplitude, coherent: bytes_of(coherent), noncoherent: bytes_of(noncoherent) }
+    Plant { start, amplitude, coherent: bytes_of(both.0), noncoherent: bytes_of(both.1) }
+}
+/// A plant, and no other.
+fn alone(plant: Plant) -> [Plant; 4] {
+    let blank = Plant { amplitude: 0.0, ..plant };
+    [plant, blank, blank, blank]
 }
 fn start(r: &mut Random, last: u32) -> u32 {
     match r.below(5) {
@@ -188,30 +236,46 @@ fn start(r: &mut Random, last: u32) -> u32 {
 }
 
 fn recipe(r: &mut Random, t: &Tables) -> (&'static str, Recipe) {
+    let short = t.kind.bits == SHORT.bits;
     let shape = r.pick(&[Shape::Four, Shape::Four, Shape::Thin, Shape::Full]);
-    let first = start(r, if shape == Shape::Four { 255 } else { 257 });
-    let mut plants = [plant(r, t, first); 4];
-    let mut kind = match shape {
-        Shape::Four => "window: planted at four samples in a row",
-        Shape::Thin => "window: thin pulses",
-        Shape::Full => "window: full pulses, one message",
+    let mut first = start(r, if shape == Shape::Four { 255 } else { 257 });
+    if short && r.often(4) {
+        first = r.pick(&[8, 255]);
+    }
+    let mut plants = alone(plant(r, t, first));
+    let mut kind = match (shape, short) {
+        (Shape::Four, false) => "window: planted at four samples in a row",
+        (Shape::Thin, false) => "window: thin pulses",
+        (Shape::Full, false) => "window: full pulses, one message",
+        (Shape::Four, true) => "window: short, planted at four samples in a row",
+        (Shape::Thin, true) => "window: short, thin pulses",
+        (Shape::Full, true) => "window: short, full pulses, one plant",
     };
-    for k in 1..4 {
-        if shape == Shape::Four {
+    if shape == Shape::Four {
+        for k in 1..4 {
             // Now and then the neighbours read nothing.
             plants[k] = plant(r, t, first + k as u32);
             if r.often(3) {
                 plants[k].coherent = bytes_of(random_message(r));
                 plants[k].noncoherent = bytes_of(random_message(r));
             }
-        } else {
-            plants[k].amplitude = 0.0;
+        }
+        // Powers that rise by less and less, or fall: the parabola's peak lies far off.
+        if r.often(5) {
+            let lowest = r.pick(&[0, 2]);
+            for k in 0..3 {
+                plants[k].amplitude = [1.0, 2.0, 2.4][k.abs_diff(lowest)];
+                if k != lowest {
+                    plants[k].coherent = bytes_of(random_message(r));
+                    plants[k].noncoherent = bytes_of(random_message(r));
+                }
+            }
         }
     }
     if shape == Shape::Full && r.often(2) {
         let other = start(r, 257);
         plants[1] = plant(r, t, other);
-        kind = "window: full pulses, two messages";
+        kind = if short { "window: short, full pulses, two plants" } else { "window: full pulses, two messages" };
     }
     let noise = match shape {
         Shape::Four => r.pick(&[0.0, 1.0, 1.0, 2.0]),
@@ -230,10 +294,70 @@ fn recipe(r: &mut Random, t: &Tables) -> (&'static str, Recipe) {
     (kind, recipe)
 }
 
+/// One plant in little noise or none.
+fn simple(r: &mut Random, start: u32, coherent: u128, noncoherent: u128) -> Recipe {
+    let plant = Plant { start, amplitude: 1.0, coherent: bytes_of(coherent), noncoherent: bytes_of(noncoherent) };
+    Recipe {
+        settings: settings(r),
+        index: index(r),
+        seed: r.word() as u32 | 1,
+        noise: r.pick(&[0.0, 0.0, 0.015625, 0.01]),
+        scale: 1.0,
+        shape: r.pick(&[Shape::Full, Shape::Thin]),
+        plants: alone(plant),
+        stores: vec![],
+    }
+}
+/// A long message with the bits of a short one among its own; at times some are turned over, which either may have in common.
+fn one_inside(r: &mut Random, both: &Both) -> Recipe {
+    let offset = 8 + r.below(25);
+    let short = whole(r, &both.short, true) >> offset;
+    let body = whole(r, &both.long, true) & !(u128::from(u64::MAX >> 8) << (56 - offset)) | short;
+    let long = ended(&both.long, body);
+    let wrong = r.pick(&[0, 0, 1, 1, 2]);
+    let [e, f] = [errors(r, &both.long, wrong), errors(r, &both.long, wrong)];
+    let start = start(r, 255);
+    match r.below(3) {
+        0 => simple(r, start, long ^ e, long ^ e),
+        1 => simple(r, start, long ^ e, long ^ f),
+        _ => simple(r, start, long, long ^ f),
+    }
+}
+/// Two messages at samples that follow one another, each with up to two bits turned over. In what is noise to the first alone an imaginary
+/// part is no number: its cn0 is none, and the coherent slicer reads it all the same. At some starts the first is met after the second.
+fn beside_nan(r: &mut Random, t: &Tables) -> Recipe {
+    let start = 8 * (1 + r.below(30)) as u32 + r.pick(&[0, 3]);
+    let wrong = r.pick(&[[0, 1], [0, 2], [1, 0], [1, 2], [2, 0], [2, 1], [0, 0], [1, 1]]);
+    let [one, other] = wrong.map(|count| whole(r, t, true) ^ errors(r, t, count));
+    let mut recipe =
+        Recipe { shape: Shape::Four, stores: vec![(2 * (start + 5) + 1, f32::NAN.to_bits())], ..simple(r, start, one, one) };
+    recipe.plants[1] = Plant { start: start + 1, amplitude: 1.0, coherent: bytes_of(other), noncoherent: bytes_of(other) };
+    recipe
+}
+/// One short message behind another, each whole or with one bit turned over. The same NaN in the noise of one of them.
+fn two_and_nan(r: &mut Random, t: &Tables) -> Recipe {
+    let wrong = r.pick(&[[0, 1], [0, 1], [1, 0], [1, 0], [0, 0], [1, 1]]);
+    let [one, other] = wrong.map(|count| whole(r, t, true) ^ errors(r, t, count));
+    let plant = one | other >> t.kind.bits;
+    let start = start(r, 255);
+    let j = r.below(112);
+    let empty = start + 8 * j as u32 + if plant & at(j) == 0 { 0 } else { 4 };
+    Recipe { stores: vec![(2 * (empty + 1) + 1, f32::NAN.to_bits())], ..simple(r, start, plant, plant) }
+}
+/// A reply to an interrogator: its code, 1 to 127, is xored into the last 7 bits of what would be a squitter.
+fn reply(r: &mut Random, t: &Tables) -> (Recipe, u8, u128) {
+    let code = if r.often(3) { 1 + r.below(127) as u8 } else { 1 << r.below(7) };
+    let squitter = whole(r, t, true);
+    let sent = squitter ^ t.kind.message(u128::from(code));
+    // Behind it nothing but bits 0.
+    let start = start(r, 255);
+    let offset = r.below(57);
+    (simple(r, start, sent >> offset, sent >> offset), code, squitter)
+}
+
 /// One message from sample 128 on, with the settings of the window program's example.
 fn plain(coherent: u128, noncoherent: u128, shape: Shape, threshold: u32, stores: &[(u32, u32)]) -> Recipe {
     let plant = Plant { start: 128, amplitude: 1.0, coherent: bytes_of(coherent), noncoherent: bytes_of(noncoherent) };
-    let blank = Plant { amplitude: 0.0, ..plant };
     Recipe {
         settings: Settings { level: 2, threshold: f32::from_bits(threshold), second: 71.0, distance: 8 },
         index: 128,
@@ -241,7 +365,7 @@ fn plain(coherent: u128, noncoherent: u128, shape: Shape, threshold: u32, stores
         noise: 0.0,
         scale: 1.0,
         shape,
-        plants: [plant, blank, blank, blank],
+        plants: alone(plant),
         stores: stores.to_vec(),
     }
 }
@@ -267,9 +391,9 @@ pub fn named() -> [(&'static str, usize, Recipe); 5] {
 }
 
 /// Pulses of 500 ns that start between samples, with a phase error, in noise.
-fn transmit(r: &mut Random, x: &mut [f32], message: u128, start: f32, amplitude: f32, phase: f32) {
+fn transmit(r: &mut Random, t: &Tables, x: &mut [f32], message: u128, start: f32, amplitude: f32, phase: f32) {
     let (re, im) = (amplitude * phase.cos(), amplitude * phase.sin());
-    for j in 0..112 {
+    for j in 0..t.kind.bits {
         let first = start + 8.0 * j as f32 + if message & at(j) == 0 { 4.0 } else { 0.0 };
         let fade = if r.often(60) { r.unit() } else { 1.0 };
         for n in first as usize..=(first as usize + 4).min(1154) {
@@ -280,16 +404,24 @@ fn transmit(r: &mut Random, x: &mut [f32], message: u128, start: f32, amplitude:
         }
     }
 }
-fn on_air(r: &mut Random, t: &Tables, two: bool) -> Vec<f32> {
+fn on_air(r: &mut Random, messages: &[&Tables]) -> Vec<f32> {
     let sigma = r.pick(&[0.0, 0.02, 0.1, 0.2, 0.3, 0.4, 0.6]);
     let mut x: Vec<f32> = (0..2310).map(|_| sigma * r.normal()).collect();
-    for _ in 0..1 + usize::from(two) {
+    // A short message that is the stronger one, a quarter turn from a long one: each slicer can read one of them.
+    let across = messages.iter().any(|t| t.kind.bits != messages[0].kind.bits) && !r.often(4);
+    for t in messages {
         let wrong = r.pick(&[0, 0, 1, 2, 2, 3]);
-        let message = whole(r, t, true) ^ errors(r, wrong);
-        let start = 4.0 + r.unit() * 254.0;
-        let phase = if r.often(4) { 6.3 * r.unit() } else { 0.3 * r.normal() };
-        let amplitude = 0.5 + r.unit();
-        transmit(r, &mut x, message, start, amplitude, phase);
+        let message = whole(r, t, true) ^ errors(r, t, wrong);
+        let start = 4.0 + r.unit() * (8 * t.kind.last + 6) as f32;
+        let mut phase = if r.often(4) { 6.3 * r.unit() } else { 0.3 * r.normal() };
+        let mut amplitude = 0.5 + r.unit();
+        if across {
+            phase = 0.02 * r.normal();
+            if t.kind.bits == SHORT.bits {
+                (phase, amplitude) = (phase + std::f32::consts::FRAC_PI_2, 3.0 * amplitude);
+            }
+        }
+        transmit(r, t, &mut x, message, start, amplitude, phase);
     }
     for (j, bits) in stores(r, 128) {
         x[j as usize] = f32::from_bits(bits);
@@ -306,7 +438,7 @@ fn adjust(r: &mut Random, s: &mut Settings, found: &Answer, distance: u32) {
     match r.below(4) {
         0 => s.second = -1e30,
         1 => (s.threshold, s.distance) = (-1e30, distance),
-        2 => (s.threshold, s.second) = (-1e30, 1e30),
+        2 => (s.threshold, s.second, s.distance) = (-1e30, 1e30, distance + r.below(2) as u32),
         _ => {}
     }
 }
@@ -315,66 +447,76 @@ fn adjust(r: &mut Random, s: &mut Settings, found: &Answer, distance: u32) {
 fn near_tie(r: &mut Random, t: &Tables) -> Recipe {
     let message = whole(r, t, true);
     let first = 12 + r.below(240) as u32;
+    let offset = r.below(113 - t.kind.bits);
     let empty = |r: &mut Random| {
-        let j = 1 + r.below(110);
-        first + 8 * j as u32 + if message & at(j) == 0 { 0 } else { 4 }
+        let j = 1 + r.below(t.kind.bits - 2);
+        first + 8 * (offset + j) as u32 + if message & at(j) == 0 { 0 } else { 4 }
     };
     let a = 0.25 + r.unit();
     let b = f32::from_bits(a.to_bits() - 1 - r.below(40) as u32);
     let stores = vec![(2 * (empty(r) - 1), a.to_bits()), (2 * (empty(r) + 3), b.to_bits()), (2 * (empty(r) + 1), 4f32.to_bits())];
-    let plant = Plant { start: first, amplitude: 1.0, coherent: bytes_of(message), noncoherent: bytes_of(message) };
-    let blank = Plant { amplitude: 0.0, ..plant };
-    Recipe {
-        settings: settings(r),
-        index: index(r),
-        seed: 1,
-        noise: 0.0,
-        scale: 1.0,
-        shape: Shape::Thin,
-        plants: [plant, blank, blank, blank],
-        stores,
-    }
+    Recipe { shape: Shape::Thin, noise: 0.0, stores, ..simple(r, first, message >> offset, message >> offset) }
 }
 
-pub fn make(t: &Tables, seed: u64, number: u64) -> Made {
+pub fn make(both: &Both, seed: u64, number: u64) -> Made {
     let r = &mut Random(seed.wrapping_mul(0xD134_2543_DE82_EF95) ^ number);
     r.word();
     let (mut settings, index) = (settings(r), index(r));
-    let mut recipe_made = None;
-    let (kind, samples) = match r.below(16) {
-        0..=9 => {
-            let (kind, recipe) = if r.often(20) { ("window: near tie", near_tie(r, t)) } else { recipe(r, t) };
-            let samples = recipe.window();
-            settings = recipe.settings;
-            recipe_made = Some(recipe);
-            (kind, samples)
-        }
-        10..=12 => ("window: a message in noise", on_air(r, t, false)),
-        13 => ("window: two messages in noise", on_air(r, t, true)),
-        14 => {
-            let size = scale(r);
-            ("window: pure noise", (0..2310).map(|_| size * r.normal()).collect())
-        }
-        _ => match r.below(3) {
-            0 => ("window: random patterns", (0..2310).map(|_| r.pattern()).collect()),
-            1 => {
-                let one = f32::from_bits(r.pick(&SPECIALS));
-                ("window: one value throughout", vec![one; 2310])
-            }
-            _ => {
-                let two = [f32::from_bits(r.pick(&SPECIALS)), r.pattern()];
-                let each = 1 + r.below(9);
-                ("window: two values in turn", (0..2310).map(|j| two[j / each % 2]).collect())
-            }
-        },
+    let (mut recipe_made, mut replied) = (None, None);
+    let mut cook = |(kind, recipe): (&'static str, Recipe)| {
+        let samples = recipe.window();
+        recipe_made = Some(recipe);
+        (kind, samples)
     };
+    let Both { long, short } = both;
+    let (kind, samples) = if number % 3 == 2 {
+        match r.below(20) {
+            0..=8 if r.often(20) => cook(("window: short, near tie", near_tie(r, short))),
+            0..=8 => cook(recipe(r, short)),
+            9 | 10 => cook(("window: two short messages, a NaN in one", two_and_nan(r, short))),
+            11 => cook(("window: a short message inside a long one", one_inside(r, both))),
+            12 | 13 => {
+                let (recipe, code, squitter) = reply(r, short);
+                replied = Some((code, bytes_of(squitter)));
+                cook(("window: a reply to an interrogator", recipe))
+            }
+            14 | 15 => ("window: a short message in noise", on_air(r, &[short])),
+            16 => ("window: two short messages in noise", on_air(r, &[short, short])),
+            _ => ("window: a long and a short message in noise", on_air(r, &[long, short])),
+        }
+    } else {
+        match r.below(16) {
+            0..=9 if r.often(20) => cook(("window: near tie", near_tie(r, long))),
+            0..=9 if r.often(20) => cook(("window: two messages, a NaN in one", beside_nan(r, long))),
+            0..=9 => cook(recipe(r, long)),
+            10..=12 => ("window: a message in noise", on_air(r, &[long])),
+            13 => ("window: two messages in noise", on_air(r, &[long, long])),
+            14 => {
+                let size = scale(r);
+                ("window: pure noise", (0..2310).map(|_| size * r.normal()).collect())
+            }
+            _ => match r.below(3) {
+                0 => ("window: random patterns", (0..2310).map(|_| r.pattern()).collect()),
+                1 => {
+                    let one = f32::from_bits(r.pick(&SPECIALS));
+                    ("window: one value throughout", vec![one; 2310])
+                }
+                _ => {
+                    let two = [f32::from_bits(r.pick(&SPECIALS)), r.pattern()];
+                    let each = 1 + r.below(9);
+                    ("window: two values in turn", (0..2310).map(|j| two[j / each % 2]).collect())
+                }
+            },
+        }
+    };
+    settings = recipe_made.as_ref().map_or(settings, |recipe| recipe.settings);
     let index = recipe_made.as_ref().map_or(index, |recipe| recipe.index);
     let mut adjusted = false;
     if settings.level == 2 && !r.often(3) {
         let free = Settings { threshold: -1e30, second: -1e30, ..settings };
-        let found = rules::decode(t, &mut Counts::default(), &samples, free, index);
+        let found = rules::decode(long, &mut Counts::default(), &samples, free, index);
         if found.repairs[0] == 2 && found.cn0.is_finite() {
-            let distance = Window::of(&samples).distance(found.place.map(|x| x as usize));
+            let distance = Window::of(&samples).distance(long.kind, found.place.map(|x| x as usize));
             adjust(r, &mut settings, &found, distance);
             adjusted = true;
             if let Some(recipe) = &mut recipe_made {
@@ -382,5 +524,5 @@ pub fn make(t: &Tables, seed: u64, number: u64) -> Made {
             }
         }
     }
-    Made { kind, samples, settings, index, recipe: recipe_made, adjusted }
+    Made { kind, samples, settings, index, recipe: recipe_made, adjusted, reply: replied }
 }

@@ -6,8 +6,9 @@ mod recipe;
 mod rules;
 
 use counts::Counts;
+use proved::Lent;
 use recipe::Random;
-use rules::{Answer, Settings, Tables, bits};
+use rules::{Answer, Both, Settings, Tables, bits};
 use std::fmt::Debug;
 use std::fs::File;
 use std::io::Write;
@@ -184,6 +185,24 @@ fn lookups(f: &mut Faults, t: &Tables) {
     println!("lookups: all 16,777,216 remainders, {singles} single and {doubles} double errors");
 }
 
+/// Every first byte with up to two bits turned over, and what is refused, for either kind.
+fn headers(f: &mut Faults) {
+    const POSITIONS: [u32; 14] = [0, 1, 2, 3, 4, 5, 6, 7, 8, 55, 56, 111, 112, u32::MAX];
+    let pairs = POSITIONS.map(|j| POSITIONS.map(|k| [j, k]));
+    for first in 0..=255u8 {
+        for (count, [j, k]) in (0..4).flat_map(|count| pairs.iter().flatten().map(move |pair| (count, *pair))) {
+            let counted = &[j, k][..count.min(2)];
+            let turned = counted.iter().filter(|j| **j < 8).fold(first, |b, j| b ^ 0x80 >> j);
+            let wanted = [&rules::LONG, &rules::SHORT].map(|kind| match count {
+                3 => (4, 0),
+                _ if counted.iter().any(|j| *j as usize >= kind.bits) => (8, 0),
+                _ => (0, u32::from(kind.header(turned))),
+            });
+            f.same("headers", u64::from(first), proved::headers(first, count as u32, j, k), wanted);
+        }
+    }
+}
+
 /// By the number of the kind.
 const ADDRESS_NAMES: &[&str] = &["address: none", "address: ICAO", "address: another kind", "address: told by a flag"];
 
@@ -194,38 +213,82 @@ fn address(c: &mut Counts, f: &mut Faults, number: u64, message: &[u8; 14]) {
     c.met(ADDRESS_NAMES[kind as usize], true);
 }
 
+/// Lent memory that no call writes by chance.
+fn marked([message, words, floats]: [usize; 3]) -> Lent {
+    Lent { message: vec![0xA5; message], words: vec![0xA5A5; words], floats: vec![1.5; floats] }
+}
+
 /// Calls that are refused: the number, and lent memory as it was.
-fn refusals(c: &mut Counts, f: &mut Faults, r: &mut Random, t: &Tables, number: u64, samples: &[f32], s: Settings, index: u64) {
+fn refusals(c: &mut Counts, f: &mut Faults, r: &mut Random, t: &Both, number: u64, samples: &[f32], s: Settings, index: u64) {
     let bad = [f32::NAN, f32::INFINITY, f32::NEG_INFINITY];
     let (mut samples, mut s, mut index) = (samples, s, index);
-    let mut sizes = [14, 8, 2];
+    let mut sizes = [Lent::LONG, Lent::SHORT];
     for _ in 0..1 + r.below(2) {
         match r.below(5) {
             0 => samples = &samples[..r.pick(&[0, 1, 2308, 2309]).min(samples.len())],
-            1 => sizes[r.below(3)] = r.below(20),
+            1 => sizes[r.below(2)][r.below(3)] = r.below(20),
             2 => s.level = r.pick(&[3, 4, u32::MAX]),
             3 if r.often(2) => s.threshold = r.pick(&bad),
             3 => s.second = r.pick(&bad),
             _ => index = r.pick(&[0, 127, (1 << 63) + 1, u64::MAX]),
         }
     }
-    let mut wanted = rules::decode(t, &mut Counts::default(), samples, s, index).number;
-    if sizes != [14, 8, 2] && wanted != 2 {
-        wanted = 3;
-    }
-    let (mut message, mut words, mut numbers) = (vec![0xA5; sizes[0]], vec![0xA5A5; sizes[1]], vec![1.5; sizes[2]]);
-    let got = proved::decode_into(samples, s, index, &mut message, &mut words, &mut numbers);
-    f.same("refusal", number, got, wanted);
-    if got != 0 {
-        let kept = (message.iter().all(|&x| x == 0xA5), words.iter().all(|&x| x == 0xA5A5), numbers.iter().all(|&x| x == 1.5));
-        f.same("memory of a refused call", number, kept, (true, true, true));
-    }
-    if (2..=6).contains(&got) {
-        c.met(&format!("refused {got}"), true);
+    let good = [sizes[0] == Lent::LONG, sizes[1] == Lent::SHORT];
+    let found = [&t.long, &t.short].map(|t| rules::decode(t, &mut Counts::default(), samples, s, index).number);
+    let ruled = |k: usize, good: bool| if good || found[k] == 2 { found[k] } else { 3 };
+    let mut out = sizes.map(marked);
+    let mut got = [0; 2];
+    got[0] = proved::decode_into(samples, s, index, &mut out[0]);
+    got[1] = proved::decode_short_into(samples, s, index, &mut out[1]);
+    f.same("refusal", number, got, [0, 1].map(|k| ruled(k, good[k])));
+    // The call for both is refused where either would be.
+    let mut pair = sizes.map(marked);
+    let [long, short] = &mut pair;
+    let numbers = proved::decode_both_into(samples, s, index, long, short);
+    f.same("refusal of both", number, numbers, [0, 1].map(|k| ruled(k, good[0] && good[1])));
+    for k in 0..2 {
+        if got[k] != 0 {
+            f.same("memory of a refused call", number, &out[k], &marked(sizes[k]));
+        }
+        if numbers[k] != 0 {
+            f.same("memory of a refused call for both", number, &pair[k], &marked(sizes[k]));
+        }
+        if (2..=6).contains(&got[k]) {
+            c.met(&format!("{}refused {}", [t.long.kind, t.short.kind][k].under, got[k]), true);
+        }
     }
     // The Rust refuses thresholds that are not finite, and has no level but its three.
     let taken = oracle_a::Oracle::default().set((s.level, s.threshold, s.second, s.distance));
     f.same("settings, by the Rust", number, taken, s.level <= 2 && s.threshold.is_finite() && s.second.is_finite());
+}
+
+/// By what the two searches found in a window.
+const PAIR_NAMES: &[&str] =
+    &["both: a long and a short message", "both: a long message alone", "both: a short message alone", "both: nothing"];
+
+const REPLY_NAMES: &[&str] = &[
+    "reply: code 1, taken with a repair at 55",
+    "reply: code 2, taken with a repair at 54",
+    "reply: code 4, taken with a repair at 53",
+    "reply: code 8, taken with a repair at 52",
+    "reply: code 16, taken with a repair at 51",
+    "reply: code 32, taken with a repair at 50",
+    "reply: code 64, taken with a repair at 49",
+    "reply: a code of more bits, not taken",
+    "reply: a code of one bit at level 0, not taken",
+];
+
+/// A reply to an interrogator is taken as the squitter that it is not exactly where its code has one bit and one repair is allowed.
+fn reply(c: &mut Counts, f: &mut Faults, number: u64, level: u32, code: u8, squitter: &[u8; 14], short: &Answer) {
+    let taken = short.number == 0 && short.message == *squitter;
+    if !taken {
+        c.met(REPLY_NAMES[if code.is_power_of_two() { 8 } else { 7 }], !code.is_power_of_two() || level == 0);
+        return;
+    }
+    f.same("a reply is taken: one bit in its code, one repair allowed", number, (code.count_ones(), level > 0), (1, true));
+    let bit = code.trailing_zeros();
+    f.same("a reply is taken: its repair", number, short.repairs, [1, 55 - u64::from(bit), 0]);
+    c.met(REPLY_NAMES[bit as usize], true);
 }
 
 const CAUSES: &[&str] = &[
@@ -312,10 +375,20 @@ fn has(samples: &[f32], test: impl Fn(f32) -> bool) -> bool {
 
 fn main() {
     let g = given();
-    let t = &Tables::new();
-    let names = [rules::NAMES, generate::NAMES, KERNEL_NAMES, ADDRESS_NAMES].concat();
-    let c = &mut Counts::of(&names);
-    let causes = &mut Counts::of(CAUSES);
+    let t = &Both::new();
+    let [long, short] = [t.long.kind.under, t.short.kind.under];
+    let c = &mut Counts::of(&[
+        (long, rules::NAMES),
+        (long, rules::LONG_NAMES),
+        (short, rules::NAMES),
+        (short, rules::SHORT_NAMES),
+        ("", generate::NAMES),
+        ("", KERNEL_NAMES),
+        ("", ADDRESS_NAMES),
+        ("", PAIR_NAMES),
+        ("", REPLY_NAMES),
+    ]);
+    let causes = &mut Counts::of(&[("", CAUSES)]);
     let f = &mut Faults::default();
     let mut recorded = vec![];
     let mut o = Oracles {
@@ -328,8 +401,9 @@ fn main() {
     for first in 0..=255 {
         f.same("kind of address, by the first byte", u64::from(first), proved::address_kind(first), rules::address_kind(first));
     }
+    headers(f);
     if g.lookups {
-        lookups(f, t);
+        lookups(f, &t.long);
     }
     for (name, wanted, recipe) in generate::named() {
         let (samples, s, index) = (recipe.window(), recipe.settings, recipe.index);
@@ -338,7 +412,7 @@ fn main() {
         let [l, only_s] = [ask!(o.l, s, &samples, index), ask!(o.s, s, &samples, index)];
         f.same(name, 0, ours.fields(), b.fields());
         f.same(name, 0, cause(&ours, &a, &l, &only_s, &b), Some(CAUSES[wanted]));
-        recorded.push(recipe.record(&b));
+        recorded.push(recipe.record(&b, &rules::decode(&t.short, &mut Counts::default(), &samples, s, index)));
         if g.show {
             println!("{name}\n  ours: {ours:?}\n  A:    {a:?}");
         }
@@ -360,9 +434,18 @@ fn main() {
         c.met("has zeros", has(samples, |x| x.to_bits() == 0));
         c.met("has minus zeros", has(samples, |x| x.to_bits() == 1 << 31));
         let before: Vec<u64> = if g.record.is_some() { c.0.values().copied().collect() } else { vec![] };
-        let ruled = rules::decode(t, c, samples, s, index);
+        let ruled = rules::decode(&t.long, c, samples, s, index);
         let ours = proved::decode(samples, s, index);
         f.same("answer, by the rules", number, ours.fields(), ruled.fields());
+        let short_ruled = rules::decode(&t.short, c, samples, s, index);
+        let short = proved::decode_short(samples, s, index);
+        f.same("short answer, by the rules", number, short.fields(), short_ruled.fields());
+        let pair = proved::decode_both(samples, s, index).map(|a| a.fields());
+        f.same("answers of both searches", number, pair, [ours.fields(), short.fields()]);
+        c.met(PAIR_NAMES[(2 * ours.number + short.number) as usize], true);
+        if let Some((code, squitter)) = &made.reply {
+            reply(c, f, number, s.level, *code, squitter, &short);
+        }
         let b = ask!(o.b, s, samples, index);
         if with_b && !f.same("answer, by the Rust B", number, ours.fields(), b.fields()) {
             differs_b += 1;
@@ -401,11 +484,13 @@ fn main() {
             let brings: Vec<usize> = (0..now.len()).filter(|&k| now[k] > before[k]).collect();
             if brings.iter().any(|&k| met_before[k] < 12) && recipe.fits() {
                 brings.iter().for_each(|&k| met_before[k] += 1);
-                recorded.push(recipe.record(&b));
+                recorded.push(recipe.record(&b, &short_ruled));
             }
         }
-        if ours.number == 0 {
-            address(c, f, number, &ours.message);
+        for found in [&ours, &short] {
+            if found.number == 0 {
+                address(c, f, number, &found.message);
+            }
         }
         if told.elapsed().as_secs() >= 10 {
             told = Instant::now();

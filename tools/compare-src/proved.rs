@@ -43,10 +43,58 @@ unsafe extern "C" {
     fn probe_codes(crcs: *const u32, n: usize, codes: *mut u32, m: usize) -> u32;
 }
 
+/// The memory that a decode is lent: message, whole numbers, floats.
+#[derive(Clone, Debug, PartialEq)]
+pub struct Lent {
+    pub message: Vec<u8>,
+    pub words: Vec<u64>,
+    pub floats: Vec<f32>,
+}
+
+impl Lent {
+    pub const LONG: [usize; 3] = [14, 8, 2];
+    pub const SHORT: [usize; 3] = [7, 8, 2];
+
+    pub fn zeros([message, words, floats]: [usize; 3]) -> Lent {
+        Lent { message: vec![0; message], words: vec![0; words], floats: vec![0.0; floats] }
+    }
+    /// Where the number is not 0 the memory still holds the zeros that it was lent with.
+    fn answer(&self, number: u32) -> Answer {
+        let [index, bit, phase, symbol, count, first, second, slicer] = self.words[..].try_into().unwrap();
+        Answer {
+            number,
+            place: [bit, phase, symbol],
+            message: std::array::from_fn(|k| self.message.get(k).copied().unwrap_or(0)),
+            repairs: [count, first, second],
+            slicer,
+            cn0: self.floats[0],
+            index,
+            fraction: self.floats[1],
+        }
+    }
+}
+
+type Decode =
+    unsafe extern "C" fn(*const f32, usize, u32, f32, f32, u32, u64, *mut u8, usize, *mut u64, usize, *mut f32, usize) -> u32;
+
+fn decode_by(decode: Decode, samples: &[f32], s: Settings, index: u64, out: &mut Lent) -> u32 {
+    let (x, n) = (samples.as_ptr(), samples.len());
+    let (m, mn) = (out.message.as_mut_ptr(), out.message.len());
+    let (w, wn) = (out.words.as_mut_ptr(), out.words.len());
+    let (f, fn_) = (out.floats.as_mut_ptr(), out.floats.len());
+    unsafe { decode(x, n, s.level, s.threshold, s.second, s.distance, index, m, mn, w, wn, f, fn_) }
+}
+
 /// The number, and the lent memory as it was left.
-pub fn decode_into(samples: &[f32], s: Settings, index: u64, message: &mut [u8], words: &mut [u64], numbers: &mut [f32]) -> u32 {
-    unsafe {
-        raw::khlongrae_decode(
+pub fn decode_into(samples: &[f32], s: Settings, index: u64, out: &mut Lent) -> u32 {
+    decode_by(raw::khlongrae_decode, samples, s, index, out)
+}
+pub fn decode_short_into(samples: &[f32], s: Settings, index: u64, out: &mut Lent) -> u32 {
+    decode_by(raw::khlongrae_decode_short, samples, s, index, out)
+}
+pub fn decode_both_into(samples: &[f32], s: Settings, index: u64, long: &mut Lent, short: &mut Lent) -> [u32; 2] {
+    let numbers = unsafe {
+        raw::khlongrae_decode_both(
             samples.as_ptr(),
             samples.len(),
             s.level,
@@ -54,31 +102,37 @@ pub fn decode_into(samples: &[f32], s: Settings, index: u64, message: &mut [u8],
             s.second,
             s.distance,
             index,
-            message.as_mut_ptr(),
-            message.len(),
-            words.as_mut_ptr(),
-            words.len(),
-            numbers.as_mut_ptr(),
-            numbers.len(),
+            long.message.as_mut_ptr(),
+            long.message.len(),
+            long.words.as_mut_ptr(),
+            long.words.len(),
+            long.floats.as_mut_ptr(),
+            long.floats.len(),
+            short.message.as_mut_ptr(),
+            short.message.len(),
+            short.words.as_mut_ptr(),
+            short.words.len(),
+            short.floats.as_mut_ptr(),
+            short.floats.len(),
         )
-    }
+    };
+    [numbers.number, numbers.short_number]
 }
 
-/// Where the number is not 0 the memory still holds the zeros that it was lent with.
 pub fn decode(samples: &[f32], s: Settings, index: u64) -> Answer {
-    let (mut message, mut words, mut numbers) = ([0; 14], [0; 8], [0.0; 2]);
-    let number = decode_into(samples, s, index, &mut message, &mut words, &mut numbers);
-    let [index, bit, phase, symbol, count, first, second, slicer] = words;
-    Answer {
-        number,
-        place: [bit, phase, symbol],
-        message,
-        repairs: [count, first, second],
-        slicer,
-        cn0: numbers[0],
-        index,
-        fraction: numbers[1],
-    }
+    let mut out = Lent::zeros(Lent::LONG);
+    let number = decode_into(samples, s, index, &mut out);
+    out.answer(number)
+}
+pub fn decode_short(samples: &[f32], s: Settings, index: u64) -> Answer {
+    let mut out = Lent::zeros(Lent::SHORT);
+    let number = decode_short_into(samples, s, index, &mut out);
+    out.answer(number)
+}
+pub fn decode_both(samples: &[f32], s: Settings, index: u64) -> [Answer; 2] {
+    let [mut long, mut short] = [Lent::LONG, Lent::SHORT].map(Lent::zeros);
+    let numbers = decode_both_into(samples, s, index, &mut long, &mut short);
+    [long.answer(numbers[0]), short.answer(numbers[1])]
 }
 
 pub fn symbols(samples: &[f32], out: &mut [f32]) -> u32 {
@@ -108,6 +162,11 @@ pub fn distance(a: &[u8], b: &[u8], offset: usize) -> Number {
 }
 pub fn header(bytes: &[u8], offset: usize, [count, j, k]: [u8; 3]) -> Number {
     unsafe { probe_header(bytes.as_ptr(), bytes.len(), offset, u32::from(count), j, k) }
+}
+/// Of a long message's first byte, and of a short one's: the number, and whether it is taken.
+pub fn headers(first: u8, count: u32, j: u32, k: u32) -> [(u32, u32); 2] {
+    let both = unsafe { [raw::khlongrae_header(first, count, j, k), raw::khlongrae_header_short(first, count, j, k)] };
+    both.map(|h| (h.number, h.valid))
 }
 pub fn address_kind(first: u8) -> u32 {
     unsafe { raw::khlongrae_address_kind(first) }

@@ -135,9 +135,9 @@ impl Recipe {
         self.stores.len() <= Recipe::STORES && self.plants.iter().all(|p| p.start < 256)
     }
 
-    /// For crates/replay, 312 bytes, little-endian 32-bit words but for the strings: settings, index, seed, noise, scale, shape;
-    /// four plants; eight stores, some of them beyond the window; and what is answered.
-    pub fn record(&self, a: &Answer) -> Vec<u8> {
+    /// For crates/replay, 376 bytes, little-endian 32-bit words but for the strings: settings, index, seed, noise, scale, shape;
+    /// four plants; eight stores, some of them beyond the window; and what the long search and the short one answer.
+    pub fn record(&self, long: &Answer, short: &Answer) -> Vec<u8> {
         let s = &self.settings;
         let mut out: Vec<u8> = vec![];
         let words = [
@@ -163,11 +163,15 @@ impl Recipe {
             out.extend(j.to_le_bytes());
             out.extend(b.to_le_bytes());
         }
-        out.extend(a.number.to_le_bytes());
-        a.place.iter().chain(&a.repairs).chain([&a.slicer]).for_each(|&w| out.extend((w as u32).to_le_bytes()));
-        out.extend(a.message);
-        out.extend([0; 2]);
-        [a.index as u32, (a.index >> 32) as u32, bits(a.cn0), bits(a.fraction)].iter().for_each(|w| out.extend(w.to_le_bytes()));
+        for a in [long, short] {
+            out.extend(a.number.to_le_bytes());
+            a.place.iter().chain(&a.repairs).chain([&a.slicer]).for_each(|&w| out.extend((w as u32).to_le_bytes()));
+            out.extend(a.message);
+            out.extend([0; 2]);
+            [a.index as u32, (a.index >> 32) as u32, bits(a.cn0), bits(a.fraction)]
+                .iter()
+                .for_each(|w| out.extend(w.to_le_bytes()));
+        }
         out
     }
 }

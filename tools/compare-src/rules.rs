@@ -1,5 +1,5 @@
-//! The rules, written down a second time and apart from both decoders. This is where the branches are counted.
-use crate::counts::Counts;
+//! The rules, written down a second time and apart from both decoders, for either kind of message. This is where the branches are counted.
+use crate::counts::{Counts, Under};
 
 #[derive(Clone, Copy, Debug, PartialEq)]
 pub struct Settings {
@@ -9,7 +9,44 @@ pub struct Settings {
     pub distance: u32,
 }
 
-/// Where the number is not 0 the rest is zeros. Slicer 0 is coherent; repairs are their count and positions.
+/// What the searches for the two kinds of message differ in.
+pub struct Kind {
+    /// How many bits a message has.
+    pub bits: usize,
+    /// The last bit offset that is searched.
+    pub last: usize,
+    /// The most repairs.
+    pub most: u32,
+    /// Each format that is taken, with the codes that it is taken with.
+    pub headers: &'static [(u8, &'static [u8])],
+    /// What stands before the names of its counts.
+    pub under: &'static str,
+}
+
+const CAPABILITIES: &[u8] = &[0, 4, 5, 6, 7];
+
+/// Extended squitters.
+pub const LONG: Kind =
+    Kind { bits: 112, last: 31, most: 2, headers: &[(17, CAPABILITIES), (18, &[0, 2, 3, 4, 5, 6])], under: "" };
+
+/// Acquisition squitters.
+pub const SHORT: Kind = Kind { bits: 56, last: 87, most: 1, headers: &[(11, CAPABILITIES)], under: "short: " };
+
+impl Kind {
+    pub fn header(&self, first: u8) -> bool {
+        self.headers.iter().any(|(format, codes)| first >> 3 == *format && codes.contains(&(first & 7)))
+    }
+    /// A message stands at the top of 112 bits, its first bit highest; behind a short one there are zeros.
+    pub fn message(&self, bits: u128) -> u128 {
+        bits << (112 - self.bits)
+    }
+    pub fn remainder(&self, message: u128) -> u32 {
+        divided(message >> (112 - self.bits))
+    }
+}
+
+/// Where the number is not 0 the rest is zeros. Slicer 0 is coherent; repairs are their count and positions. A short message has the
+/// first 7 bytes, and zeros behind them.
 #[derive(Clone, Copy, Debug, Default)]
 pub struct Answer {
     pub number: u32,
@@ -52,11 +89,11 @@ fn sample(samples: &[f32], j: usize) -> Complex {
     (samples[2 * j], samples[2 * j + 1])
 }
 
-/// The remainder of 112 bits, the first highest, times x^24, one bit at a time.
-pub fn remainder(message: u128) -> u32 {
+/// The remainder of at most 112 bits, the first highest, times x^24, one bit at a time. Zeros before them change nothing.
+pub fn divided(bits: u128) -> u32 {
     let mut r: u32 = 0;
     for j in 0..136 {
-        let bit = if j < 112 { (message >> (111 - j)) as u32 & 1 } else { 0 };
+        let bit = if j < 112 { (bits >> (111 - j)) as u32 & 1 } else { 0 };
         r = 2 * r + bit;
         if r >> 24 == 1 {
             r ^= 0x1FF_F409;
@@ -72,28 +109,17 @@ pub fn at(j: usize) -> u128 {
     1 << (111 - j)
 }
 
-pub fn header(first: u8) -> bool {
-    match first >> 3 {
-        17 => [0, 4, 5, 6, 7].contains(&(first & 7)),
-        18 => [0, 2, 3, 4, 5, 6].contains(&(first & 7)),
-        _ => false,
-    }
-}
 /// What the three bytes behind a first byte are: 1 an ICAO address, 2 one of another kind, 3 one whose kind a flag inside the message
 /// tells, 0 none.
 pub fn address_kind(first: u8) -> u32 {
     match (first >> 3, first & 7) {
-        _ if !header(first) => 0,
-        (17, _) | (_, 0) => 1,
+        _ if !LONG.header(first) && !SHORT.header(first) => 0,
+        (11 | 17, _) | (_, 0) => 1,
         (_, 5) => 2,
         (_, 4) => 0,
         _ => 3,
     }
 }
-fn good(message: u128) -> bool {
-    header((message >> 104) as u8)
-}
-
 pub fn ten_log10(x: f32) -> f32 {
     if x.is_nan() || x < 0.0 {
         return f32::NAN;
@@ -133,29 +159,30 @@ pub fn parabola(early: f32, prompt: f32, late: f32) -> f32 {
     if d == 0.0 { 0.0 } else { (-0.5 * (late - early)) / d }
 }
 
-/// For each remainder what clears it: 0 nothing, else 1 more than the number of the choice.
+/// For each remainder of a kind of message which one or two positions clear it: 0 none, else 1 more than the number of the choice.
 pub struct Tables {
+    pub kind: &'static Kind,
     which: Vec<u16>,
     choices: Vec<[u64; 3]>,
-    of_bit: [u32; 112],
+    of_bit: Vec<u32>,
 }
 
 impl Tables {
-    pub fn new() -> Tables {
-        let of_bit: [u32; 112] = std::array::from_fn(|j| remainder(at(j)));
+    pub fn new(kind: &'static Kind) -> Tables {
+        let of_bit: Vec<u32> = (0..kind.bits).map(|j| kind.remainder(at(j))).collect();
         let (mut which, mut choices) = (vec![0; 1 << 24], vec![]);
         let mut put = |r: u32, choice| {
             assert!(r != 0 && which[r as usize] == 0, "two choices have one remainder");
             choices.push(choice);
             which[r as usize] = choices.len() as u16;
         };
-        for j in 0..112 {
+        for j in 0..kind.bits {
             put(of_bit[j], [1, j as u64, 0]);
-            for k in j + 1..112 {
+            for k in j + 1..kind.bits {
                 put(of_bit[j] ^ of_bit[k], [2, j as u64, k as u64]);
             }
         }
-        Tables { which, choices, of_bit }
+        Tables { kind, which, choices, of_bit }
     }
     /// The positions, as many as asked for, that clear a remainder.
     pub fn clearing(&self, count: u64, r: u32) -> Option<[u64; 3]> {
@@ -165,6 +192,14 @@ impl Tables {
         let choice = self.choices[usize::from(self.which[r as usize].checked_sub(1)?)];
         (choice[0] == count).then_some(choice)
     }
+    /// The header of a message is one of those that are taken.
+    fn good(&self, message: u128) -> bool {
+        self.kind.header((message >> 104) as u8)
+    }
+    /// The positions, as many as asked for, that clear a message and give it a good header.
+    fn mends(&self, count: u64, message: u128, r: u32) -> bool {
+        self.clearing(count, r).is_some_and(|found| self.good(repaired(message, found)))
+    }
     pub fn remainder(&self, message: u128) -> u32 {
         let (mut m, mut r) = (message, 0);
         while m != 0 {
@@ -173,6 +208,18 @@ impl Tables {
             m ^= at(j);
         }
         r
+    }
+}
+
+/// Those of both kinds.
+pub struct Both {
+    pub long: Tables,
+    pub short: Tables,
+}
+
+impl Both {
+    pub fn new() -> Both {
+        Both { long: Tables::new(&LONG), short: Tables::new(&SHORT) }
     }
 }
 
@@ -209,20 +256,20 @@ impl Window<'_> {
         }
         Window { samples, symbols, streams }
     }
-    pub fn bits(&self, slicer: usize, [bit, phase, symbol]: [usize; 3]) -> u128 {
+    pub fn bits(&self, kind: &Kind, slicer: usize, [bit, phase, symbol]: [usize; 3]) -> u128 {
         let stream = &self.streams[8 * slicer + 2 * phase + symbol];
-        stream[bit..bit + 112].iter().fold(0, |m, &b| m << 1 | u128::from(b))
+        kind.message(stream[bit..bit + kind.bits].iter().fold(0, |m, &b| m << 1 | u128::from(b)))
     }
-    pub fn distance(&self, place: [usize; 3]) -> u32 {
-        (self.bits(0, place) ^ self.bits(1, place)).count_ones()
+    pub fn distance(&self, kind: &Kind, place: [usize; 3]) -> u32 {
+        (self.bits(kind, 0, place) ^ self.bits(kind, 1, place)).count_ones()
     }
     /// At the place that starts with a sample.
-    pub fn prompt(&self, start: usize, message: u128) -> f32 {
+    pub fn prompt(&self, kind: &Kind, start: usize, message: u128) -> f32 {
         let row = &self.symbols[start % 4];
-        (0..112).fold(0.0, |sum, j| sum + norm(row[start / 4 + 2 * j + usize::from(message & at(j) == 0)]))
+        (0..kind.bits).fold(0.0, |sum, j| sum + norm(row[start / 4 + 2 * j + usize::from(message & at(j) == 0)]))
     }
-    pub fn noise(&self, start: usize, message: u128) -> f32 {
-        (0..112).fold(0.0, |sum, j| {
+    pub fn noise(&self, kind: &Kind, start: usize, message: u128) -> f32 {
+        (0..kind.bits).fold(0.0, |sum, j| {
             let empty = start + 8 * j + if message & at(j) == 0 { 0 } else { 4 };
             sum + norm(plus(sample(self.samples, empty + 1), sample(self.samples, empty + 2)))
         })
@@ -244,24 +291,12 @@ struct Candidate {
     cn0: f32,
 }
 
-/// The names of all that is counted here.
+/// The names of what is counted here, for either kind.
 pub const NAMES: &[&str] = &[
-    "reading by trial #1-6",
-    "answer by trial #1-6",
-    "header bad at trial #1-6",
-    "slip: trial 5 passes behind a trial 4 whose header failed",
+    "reading by trial #1-4",
+    "answer by trial #1-4",
+    "header bad at trial #1-4",
     "trial 4 skipped, remainders equal, and it would have passed",
-    "trial 6 skipped, remainders equal, and it would have passed",
-    "trial 5 dropped, and trial 6 would have passed",
-    "dropped below the first threshold",
-    "dropped below the second threshold, by the distance",
-    "saved by the distance alone",
-    "coherent, two repairs, below the second threshold, survives",
-    "cn0 exactly at the first threshold, survives",
-    "cn0 exactly at the second threshold, survives",
-    "distance exactly at its limit, dropped",
-    "distance one below its limit, survives",
-    "NaN cn0 with two repairs survives",
     "choice: fewer repairs replace",
     "choice: greater cn0 replaces",
     "choice: more repairs do not replace",
@@ -286,6 +321,8 @@ pub const NAMES: &[&str] = &[
     "no neighbour takes over",
     "answer at the first place",
     "answer at the last place",
+    "a reading before the first place, not looked for",
+    "a reading behind the last place, not looked for",
     "cn0 NaN",
     "cn0 infinite",
     "cn0 minus infinite",
@@ -295,10 +332,36 @@ pub const NAMES: &[&str] = &[
     "nothing found",
     "refused #2-6",
 ];
+/// Of long messages alone.
+pub const LONG_NAMES: &[&str] = &[
+    "reading by trial #5-6",
+    "answer by trial #5-6",
+    "header bad at trial #5-6",
+    "slip: trial 5 passes behind a trial 4 whose header failed",
+    "trial 6 skipped, remainders equal, and it would have passed",
+    "trial 5 dropped, and trial 6 would have passed",
+    "dropped below the first threshold",
+    "dropped below the second threshold, by the distance",
+    "saved by the distance alone",
+    "coherent, two repairs, below the second threshold, survives",
+    "cn0 exactly at the first threshold, survives",
+    "cn0 exactly at the second threshold, survives",
+    "distance exactly at its limit, dropped",
+    "distance one below its limit, survives",
+    "NaN cn0 with two repairs survives",
+];
+/// Of short messages alone.
+pub const SHORT_NAMES: &[&str] = &[
+    "level 2, two positions would clear it, and it is not read",
+    "level 2, nothing found, where two repairs would find something",
+    "below both thresholds, with the slicers at the distance, found",
+    "answer at a bit offset above 31",
+    "answer repaired at 49 to 55",
+];
 
-fn passes(t: &Tables, c: &mut Counts, trial: u32, message: u128, r: u32) -> Option<[u64; 3]> {
+fn passes(t: &Tables, c: &mut Under, trial: u32, message: u128, r: u32) -> Option<[u64; 3]> {
     let found = t.clearing(u64::from(trial - 1) / 2, r)?;
-    if good(repaired(message, found)) {
+    if t.good(repaired(message, found)) {
         return Some(found);
     }
     c.met(&format!("header bad at trial {trial}"), true);
@@ -306,18 +369,17 @@ fn passes(t: &Tables, c: &mut Counts, trial: u32, message: u128, r: u32) -> Opti
 }
 
 /// The first trial that passes.
-fn reading(t: &Tables, c: &mut Counts, level: u32, coherent: u128, noncoherent: u128) -> Option<Reading> {
-    let r = [t.remainder(coherent), t.remainder(noncoherent)];
+fn reading(t: &Tables, c: &mut Under, level: u32, words: [u128; 2]) -> Option<Reading> {
+    let r = words.map(|message| t.remainder(message));
     let mut slips = false;
     for trial in 1..=6 {
         let slicer = usize::from(trial % 2 == 0);
-        let message = [coherent, noncoherent][slicer];
-        if (trial - 1) / 2 > level {
+        let message = words[slicer];
+        if (trial - 1) / 2 > level.min(t.kind.most) {
             break;
         }
         if trial > 3 && slicer == 1 && r[0] == r[1] {
-            let skipped = t.clearing(u64::from(trial - 1) / 2, r[1]).is_some_and(|found| good(repaired(message, found)));
-            if skipped {
+            if t.mends(u64::from(trial - 1) / 2, message, r[1]) {
                 c.met(&format!("trial {trial} skipped, remainders equal, and it would have passed"), true);
             }
             continue;
@@ -332,21 +394,20 @@ fn reading(t: &Tables, c: &mut Counts, level: u32, coherent: u128, noncoherent: 
     None
 }
 
-fn dropped(t: &Tables, c: &mut Counts, s: Settings, w: &Window, new: &Candidate) -> bool {
+fn dropped(t: &Tables, c: &mut Under, s: Settings, w: &Window, new: &Candidate) -> bool {
     if new.reading.repairs[0] < 2 {
         return false;
     }
     let cn0 = new.cn0;
     let noncoherent = new.reading.slicer == 1;
-    let distance = w.distance(new.place);
+    let distance = w.distance(t.kind, new.place);
     c.met("cn0 exactly at the first threshold, survives", cn0 == s.threshold && (!noncoherent || cn0 >= s.second));
     c.met("NaN cn0 with two repairs survives", cn0.is_nan());
     if cn0 < s.threshold {
         c.met("dropped below the first threshold", true);
-        let coherent = w.bits(0, new.place);
-        let other = w.bits(1, new.place);
+        let [coherent, other] = [0, 1].map(|slicer| w.bits(t.kind, slicer, new.place));
         let r = t.remainder(other);
-        let sixth = t.clearing(2, r).is_some_and(|found| good(repaired(other, found)));
+        let sixth = t.mends(2, other, r);
         c.met("trial 5 dropped, and trial 6 would have passed", new.reading.trial == 5 && sixth && r != t.remainder(coherent));
         return true;
     }
@@ -362,7 +423,7 @@ fn dropped(t: &Tables, c: &mut Counts, s: Settings, w: &Window, new: &Candidate)
     false
 }
 
-fn replaces(c: &mut Counts, new: &Candidate, held: &Candidate) -> bool {
+fn replaces(c: &mut Under, new: &Candidate, held: &Candidate) -> bool {
     let (n, h) = (new.reading.repairs[0], held.reading.repairs[0]);
     if n < h {
         c.met("choice: fewer repairs replace", true);
@@ -382,9 +443,10 @@ fn replaces(c: &mut Counts, new: &Candidate, held: &Candidate) -> bool {
     new.cn0 > held.cn0
 }
 
-fn timing(c: &mut Counts, w: &Window, start: usize, message: u128) -> (i64, f32) {
-    let own = w.prompt(start, message);
-    let (early, late) = (w.prompt(start - 1, message), w.prompt(start + 1, message));
+fn timing(kind: &Kind, c: &mut Under, w: &Window, start: usize, message: u128) -> (i64, f32) {
+    let power_at = |start: usize| w.prompt(kind, start, message);
+    let own = power_at(start);
+    let (early, late) = (power_at(start - 1), power_at(start + 1));
     let (mut offset, mut power) = (0i64, own);
     if early > power {
         (offset, power) = (-1, early);
@@ -397,7 +459,7 @@ fn timing(c: &mut Counts, w: &Window, start: usize, message: u128) -> (i64, f32)
     c.met("neighbour later takes over", offset == 1);
     c.met("no neighbour takes over", offset == 0);
     let at = (start as i64 + offset) as usize;
-    let (before, after) = (w.prompt(at - 1, message), w.prompt(at + 1, message));
+    let (before, after) = (power_at(at - 1), power_at(at + 1));
     let mut p = parabola(before, power, after);
     c.met("parabola with d = 0", (after + before) - 2.0 * power == 0.0);
     if p < -1.0 {
@@ -420,7 +482,9 @@ fn timing(c: &mut Counts, w: &Window, start: usize, message: u128) -> (i64, f32)
     (moves, fraction)
 }
 
-pub fn decode(t: &Tables, c: &mut Counts, samples: &[f32], s: Settings, index: u64) -> Answer {
+/// The search for the kind of message that the tables are of.
+pub fn decode(t: &Tables, counts: &mut Counts, samples: &[f32], s: Settings, index: u64) -> Answer {
+    let (kind, c) = (t.kind, &mut counts.under(t.kind.under));
     let number = if samples.len() != 2310 {
         2
     } else if s.level > 2 {
@@ -438,16 +502,30 @@ pub fn decode(t: &Tables, c: &mut Counts, samples: &[f32], s: Settings, index: u
     }
     c.met(&format!("level {}", s.level), true);
     let w = &Window::of(samples);
+    let words_at = |place| [w.bits(kind, 0, place), w.bits(kind, 1, place)];
+    let beside = |bit, symbols: usize| {
+        let mut places = (0..4).flat_map(|phase| (0..symbols).map(move |symbol| [bit, phase, symbol]));
+        places.any(|place| reading(t, &mut Counts::default().under(""), s.level, words_at(place)).is_some())
+    };
+    c.met("a reading before the first place, not looked for", beside(0, 2));
+    c.met("a reading behind the last place, not looked for", beside(kind.last + 1, 1));
     let mut held: Option<Candidate> = None;
-    for bit in 1..32 {
+    // A level above the most repairs of the kind: what it would have found.
+    let mut beyond = false;
+    for bit in 1..=kind.last {
         for phase in 0..4 {
             for symbol in 0..2 {
                 let place = [bit, phase, symbol];
-                let words = [w.bits(0, place), w.bits(1, place)];
-                let Some(reading) = reading(t, c, s.level, words[0], words[1]) else { continue };
+                let words = words_at(place);
+                let Some(reading) = reading(t, c, s.level, words) else {
+                    let two = s.level > kind.most && words.iter().any(|&m| t.mends(2, m, t.remainder(m)));
+                    c.met("level 2, two positions would clear it, and it is not read", two);
+                    beyond |= two;
+                    continue;
+                };
                 let message = repaired(words[reading.slicer], reading.repairs);
                 let start = 4 * (2 * bit + symbol) + phase;
-                let cn0 = cn0_of(w.prompt(start, message), w.noise(start, message));
+                let cn0 = cn0_of(w.prompt(kind, start, message), w.noise(kind, start, message));
                 let new = Candidate { place, reading, message, cn0 };
                 if dropped(t, c, s, w, &new) {
                     continue;
@@ -460,19 +538,26 @@ pub fn decode(t: &Tables, c: &mut Counts, samples: &[f32], s: Settings, index: u
     }
     let Some(best) = held else {
         c.met("nothing found", true);
+        c.met("level 2, nothing found, where two repairs would find something", beyond);
         return Answer::refused(1);
     };
     let [bit, phase, symbol] = best.place;
     let start = 4 * (2 * bit + symbol) + phase;
-    let (moves, fraction) = timing(c, w, start, best.message);
+    let (moves, fraction) = timing(kind, c, w, start, best.message);
     c.met("found", true);
     c.met(&format!("answer by trial {}", best.reading.trial), true);
     c.met("answer at the first place", best.place == [1, 0, 0]);
-    c.met("answer at the last place", best.place == [31, 3, 1]);
+    c.met("answer at the last place", best.place == [kind.last, 3, 1]);
     c.met("cn0 NaN", best.cn0.is_nan());
     c.met("cn0 infinite", best.cn0 == f32::INFINITY);
     c.met("cn0 minus infinite", best.cn0 == f32::NEG_INFINITY);
     c.met("cn0 finite", best.cn0.is_finite());
+    if kind.bits == SHORT.bits {
+        let low = best.cn0 < s.threshold && best.cn0 < s.second && w.distance(kind, best.place) >= s.distance;
+        c.met("below both thresholds, with the slicers at the distance, found", low && best.reading.slicer == 1);
+        c.met("answer at a bit offset above 31", bit > LONG.last);
+        c.met("answer repaired at 49 to 55", best.reading.repairs[0] == 1 && best.reading.repairs[1] >= 49);
+    }
     Answer {
         number: 0,
         place: best.place.map(|x| x as u64),

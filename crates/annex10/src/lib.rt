@@ -1,4 +1,6 @@
-// The types of a repair and of an address. What they mean stands in specs/; no code.
+// The types of a repair and of an address, whose meaning stands in specs/, and how many bytes a message has.
+ghost use mathlib.Core.Path.{_≡_};
+ghost use Rattle.annex10.specs.Length.{messageLength};
 
 // At most two positions of a message, whose bits are turned over.
 pub enum Repairs {
@@ -19,4 +21,14 @@ pub enum AddressKind {
     Other,
     Flagged,
     NoAddress,
+}
+
+// A message has 7 bytes or 14.
+pub fn is_message(n: usize) -> bool
+    ensures { λ r. ⌜ r ≡ messageLength n ⌝ }
+{
+    if n == 7 {
+        return true;
+    }
+    n == 14
 }

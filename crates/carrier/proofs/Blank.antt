@@ -3,7 +3,7 @@
 -- Assumes nothing.
 use mathlib.Core.Path.{_≡_, refl, sym, _∙_}
 use mathlib.Core.List.{List}
-use mathlib.Core.Bool.{Bool, true, false, not, cond, _&&_, _||_, true≢false}
+use mathlib.Core.Bool.{Bool, true, false, not, cond, _||_, true≢false}
 use Prim.Native.Nat.{ℕ, zero, suc, _+_, _-_, _*_, _/_, _<_, _≤_}
 use native.Mathlib.Nat.{mul-zero, zero-mul, mul-pos}
 use native.Mathlib.Omega.{arith}
@@ -16,6 +16,7 @@ use lib.Ieee.Bits.{is-true}
 use lib.Ieee.Exact.{HasValue, round-exact}
 use lib.Ieee.Fits.{down-pos}
 use Rattle.lists.specs.Told.{done}
+use Rattle.lists.proofs.Test.{and-both}
 use Rattle.floats.specs.Numbers.{zeroF}
 use Rattle.math.specs.Parabola.{parabola}
 use Rattle.floats.proofs.Order.{zero-of}
@@ -60,15 +61,11 @@ open-threshold n m w threshold true true u v a e = a
 open-threshold n m w threshold true false u v a e = absurd (omega arith)
 open-threshold n m w threshold false p u v a e = absurd (omega arith)
 
-first-true : (a b : Bool) → (a && b) ≡ true → a ≡ true
-first-true true b h = refl
-first-true false b h = h
-
 finite-threshold : (n m w : ℕ) (threshold : Float) → carrierNumber n m w threshold ≡ 0 → finite threshold ≡ true
 unfolding carrierNumber thresholdTaken
 finite-threshold n m w threshold e =
-    first-true (finite threshold) (not (lt threshold zeroF))
-    (open-threshold n m w threshold (binsTaken n) (thresholdTaken threshold) (leb m (n / 2 - 2)) (ltb w n) refl e)
+    and-both (finite threshold) (not (lt threshold zeroF))
+    (open-threshold n m w threshold (binsTaken n) (thresholdTaken threshold) (leb m (n / 2 - 2)) (ltb w n) refl e) .0
 
 none-greater : lt zeroF zeroF ≡ false
 unfolding lt ofBits

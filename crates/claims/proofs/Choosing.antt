@@ -1,11 +1,11 @@
 -- What a search returns is chosen among all places, only one is, and it returns nothing exactly when no place holds anything.
 -- Assumes, where it is named: `Apart`, that all patterns of at most two positions have different remainders (proved for 14 and 7 bytes).
-use mathlib.Core.Path.{_≡_, refl, sym, ap, _∙_, subst, fun-ext}
+use mathlib.Core.Path.{_≡_, refl, sym, ap, _∙_, subst}
 use mathlib.Core.Bool.{Bool, true, false, not}
 use mathlib.Core.List.{List}
 use mathlib.Core.Logic.{inl, inr, _↔_, _≢_}
 use mathlib.Core.Option.{Option, none, some}
-use Prim.Native.Nat.{ℕ, _+_, _*_, _≤_, _<_, min}
+use Prim.Native.Nat.{ℕ, _+_, _*_, _≤_, _<_}
 use native.Mathlib.Omega.{arith}
 use native.Mathlib.Decide.{decLt}
 use lib.Dec.{T}
@@ -16,21 +16,18 @@ use Rattle.annex10.specs.Repair.{count, Apart}
 use Rattle.annex10.specs.declared.Repairs.{Repairs}
 use Rattle.place.specs.declared.Place.{Place}
 use Rattle.place.specs.declared.Slicer.{Slicer}
-use Rattle.place.specs.declared.Slicer.the-variants.{Coherent, Noncoherent}
 use Rattle.place.specs.All.{placeAt}
 use Rattle.search.specs.declared.Settings.{Settings}
 use Rattle.search.specs.declared.Candidate.{Candidate}
-use Rattle.search.specs.declared.Tried.{Tried}
-use Rattle.search.specs.declared.Tried.the-variants.{Pass, Fail}
 use Rattle.search.specs.Kinds.{Kind, placesOf}
 use Rattle.search.specs.Window.{_∈_, Window, Sized}
-use Rattle.search.specs.Trials.{reading}
-use Rattle.search.specs.Choice.{candidate, dropped, survivor, candidateAt, scan, best}
+use Rattle.search.specs.Choice.{candidate, candidateAt, scan, best}
 use Rattle.search.proofs.Passing.{readingOf}
-use Rattle.search.proofs.Scanning.{not-some, scan-none, atMost, atMost-is, atMost-kept, level-is, whole}
+use Rattle.search.proofs.Scanning.{not-some, scan-none}
+use Rattle.search.proofs.Staging.{exact-first}
 use Rattle.search.proofs.Choosing.{scan-chosen}
 use Rattle.search.proofs.Choosing as scanned
-use Rattle.claims.specs.Fits.{permitted, cn0With, Holds}
+use Rattle.claims.specs.Fits.{cn0With, Holds}
 use Rattle.claims.specs.Chosen.{Places, Sooner, Held, Chosen}
 use Rattle.claims.specs.Calls.{NoneHeld}
 use Rattle.claims.specs.Audited.{atLevel}
@@ -188,22 +185,8 @@ module _ (kind : Kind) (s : Settings) (w : Window) (apart : Apart (kind .bytes))
 
   -- ---- the level
 
-  -- with all six trials the level plays no part
-  same-survivor : (l : ℕ) (p : Place) (t : Tried) → survivor (atLevel l s) w p t ≡ survivor s w p t
-  unfolding survivor dropped
-  same-survivor l p Fail = refl
-  same-survivor l p (Pass r) = refl
-
-  same-whole : (l : ℕ) → whole kind (atLevel l s) w ≡ whole kind s w
-  unfolding whole
-  same-whole l =
-      ap (λ (f : Place → Option Candidate). scan f none (placesOf kind))
-      (fun-ext (λ p. same-survivor l p (reading kind 2 (w .bits Coherent p) (w .bits Noncoherent p))))
-
   higher : (a : Candidate) → best kind s w ≡ some a → (l : ℕ) → s .level ≤ l → best kind (atLevel l s) w ≡ some a
-  higher a e l h =
-      let (q, n) = atMost-is (permitted kind s) (whole kind s w) (sym (level-is kind s w) ∙ e) in
-      level-is kind (atLevel l s) w ∙ ap (atMost (min l (kind .most))) (same-whole l ∙ q) ∙ atMost-kept (min l (kind .most)) a (omega arith)
+  higher a e l h = exact-first kind (atLevel l s) w (s .level) h e
 
   -- ALL THAT IS CLAIMED OF A SEARCH
   pub searched : Searched kind s w

@@ -1,7 +1,7 @@
 // The powers of a message at its place's neighbours, in one pass over its bits: no sum waits for another.
-use crate::length::is_message;
 use crate::norms::bit_of;
 use crate::norms::pulse_norm;
+use annex10::is_message;
 ghost use mathlib.Core.Path.{_≡_};
 ghost use Rattle.kernels.specs.Around.{aroundAt};
 

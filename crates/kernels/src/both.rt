@@ -1,8 +1,8 @@
 // Both powers of a message in one pass over its bits: neither sum waits for the other.
-use crate::length::is_message;
 use crate::norms::bit_of;
 use crate::norms::empty_norm;
 use crate::norms::pulse_norm;
+use annex10::is_message;
 ghost use mathlib.Core.Path.{_≡_};
 ghost use Rattle.kernels.specs.Both.{powersAt};
 

@@ -2,7 +2,6 @@
 pub mod around;
 pub mod both;
 mod complex;
-mod length;
 mod norms;
 pub mod power;
 pub mod slicers;

@@ -1,8 +1,8 @@
 // The power of a message, and of the noise beside it.
-use crate::length::is_message;
 use crate::norms::bit_of;
 use crate::norms::empty_norm;
 use crate::norms::pulse_norm;
+use annex10::is_message;
 ghost use mathlib.Core.Path.{_≡_};
 ghost use Prim.Native.Nat.{_*_, _≤_};
 ghost use lib.ListN.{length};

@@ -1,7 +1,7 @@
--- Tests: one of two, and computed ones over a table and over the numbers below a bound.
+-- Tests: one of two, both of two, and computed ones over a table and over the numbers below a bound.
 -- Assumes nothing.
 use mathlib.Core.Path.{_≡_, refl, _∙_, subst, sym}
-use mathlib.Core.Bool.{Bool, true, false, _||_, true≢false}
+use mathlib.Core.Bool.{Bool, true, false, _&&_, _||_, true≢false}
 use mathlib.Core.Logic.{_⊎_, inl, inr}
 use mathlib.Core.List.{List, [], _∷_}
 use Prim.Native.Nat.{ℕ, zero, suc, _+_, _<_}
@@ -13,6 +13,11 @@ use lib.ListN.{length, getD}
 pub or-none : (a b : Bool) → (a || b) ≡ false → (a ≡ false) × (b ≡ false)
 or-none false b e = (refl, e)
 or-none true b e = absurd (true≢false e)
+
+-- both pass
+pub and-both : (a b : Bool) → (a && b) ≡ true → (a ≡ true) × (b ≡ true)
+and-both true b e = (refl, e)
+and-both false b e = absurd (true≢false (sym e))
 
 abbrev pub both : Bool → Bool → Bool
 both true b = b

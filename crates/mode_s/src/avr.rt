@@ -1,5 +1,5 @@
 // A message as an AVR line: `*`, its capital hex digits, `;`.
-use crate::length::is_message;
+use annex10::is_message;
 ghost use mathlib.Core.Path.{_≡_};
 ghost use Prim.Native.Nat.{_+_, _*_, _/_, _%_, _<_};
 ghost use lib.ListN.{length};

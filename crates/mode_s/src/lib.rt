@@ -4,6 +4,5 @@ pub mod bytes;
 pub mod crc;
 pub mod header;
 mod inside;
-mod length;
 pub mod message;
 pub mod repair;

@@ -1,7 +1,7 @@
 // A message repaired in place.
 use crate::inside::lie_inside;
-use crate::length::is_message;
 use annex10::Repairs;
+use annex10::is_message;
 ghost use mathlib.Core.Path.{_≡_};
 ghost use Rattle.annex10.specs.Flip.{flip};
 ghost use Rattle.annex10.specs.Repair.{repaired};

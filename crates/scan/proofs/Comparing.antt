@@ -4,8 +4,8 @@
 --     Room, room-of             the lengths of the memories, one by one
 --     scanned-done, both-done   the answer where nothing is refused: for one kind of message, for both
 -- Assumes nothing.
-use mathlib.Core.Path.{_≡_, refl, sym, subst}
-use mathlib.Core.Bool.{Bool, true, false, _&&_, true≢false}
+use mathlib.Core.Path.{_≡_, subst}
+use mathlib.Core.Bool.{true, _&&_}
 use mathlib.Core.List.{List}
 use Prim.Native.Nat.{ℕ, _+_, _<_, _≤_}
 use native.Mathlib.Omega.{arith}
@@ -15,14 +15,11 @@ use lib.ListN.{length, getD}
 use lib.Ieee.{Float, lt, nan}
 use Rattle.lists.specs.Bits.{asBit}
 use Rattle.lists.proofs.Table.{Done}
+use Rattle.lists.proofs.Test.{and-both}
 use Rattle.kernels.specs.Symbols.{sumsOf}
 use Rattle.place.specs.declared.Slicer.the-variants.{Coherent, Noncoherent}
 use Rattle.scan.specs.Flat.{bitsFrom, crcsIn, roomFor, scanned, scannedBoth}
 use Rattle.scan.specs.Inner.{bitIn}
-
-and-both : (a b : Bool) → (a && b) ≡ true → (a ≡ true) × (b ≡ true)
-and-both true b e = (refl, e)
-and-both false b e = absurd (true≢false (sym e))
 
 pub bit-is : (row : List Float) (i : ℕ) {b : ℕ} → i < 1148 → b ≡ asBit (lt (getD row (i + 4) nan) (getD row i nan)) → b ≡ bitIn row i
 unfolding bitIn

@@ -1,9 +1,9 @@
--- `mode_s::length::is_message` meets its contract.
+-- `annex10::is_message` meets its contract.
 -- Assumes nothing.
 use borrow.Author.Tests.{eq-eqb, ne-eqb}
 use Rattle.annex10.specs.Length.{messageLength}
-use Rattle.mode_s.proofs.length.is_message.Statement.{statement}
-use Rattle.mode_s.proofs.length.is_message.Tie as tie
+use Rattle.annex10.proofs.is_message.Statement.{statement}
+use Rattle.annex10.proofs.is_message.Tie as tie
 
 returns : tie.Need-returns
 unfolding messageLength

@@ -1,0 +1,11 @@
+-- Each public contract of annex10 fixes its outcome. Written by tools/outcomes; the prover trusts nothing of it.
+-- Assumes nothing.
+use mathlib.Core.Path.{refl}
+use Rattle.outcomes.specs.Outcome.{Fixed, answer}
+use Rattle.outcomes.proofs.Law.{fixes, answer-set}
+use Rattle.annex10.proofs.is_message as annex10-is-message
+
+pub annex10-is-message-fixed : Fixed annex10-is-message.ended (answer _) (λ M 𝓤 H. annex10-is-message.clauses 𝓤 H) (λ M 𝓤 H. annex10-is-message.spec 𝓤 H)
+annex10-is-message-fixed =
+    fixes annex10-is-message.ended _ (answer-set annex10-is-message.ended) refl (λ κs. refl)
+    (λ κs a r e. r) (λ κs a y. (y, (tt, tt))) (λ κs a r ws. refl)

@@ -1,7 +1,8 @@
 -- Bits joined to bytes.
---     apart-more   a turn of the loop that puts one stream after the other
---     bytes-made   what the four calls made
---     bytes-are    joined three times, the bits of both streams are their bytes
+--     apart-more                a turn of the loop that puts one stream after the other
+--     bytes-made                what the four calls made
+--     bytes-are                 joined three times, the bits of two streams are their bytes
+--     streams-are, marks-are    those of a slicer, and of its marks
 -- Assumes nothing.
 use mathlib.Core.Path.{_≡_, refl, sym, ap, _∙_}
 use mathlib.Core.List.{List, _++_}
@@ -10,7 +11,7 @@ use native.Mathlib.Nat.{mod-eq-of-lt}
 use native.Mathlib.Decide.{ℕ-discrete}
 use native.Mathlib.Omega.{arith}
 use lib.Bits.{bitOr, or-shifted}
-use lib.ListN.{length, getD, set, List·getD-append}
+use lib.ListN.{length, length-append, getD, set, List·getD-append}
 use lib.Seq.{getD-append-add}
 use lib.Ieee.{Float}
 use Rattle.lists.specs.From.{tabulate}
@@ -18,9 +19,9 @@ use Rattle.lists.specs.Bits.{value, packed}
 use Rattle.lists.proofs.Table.{Where, where-more, length-tabulate, getD-tabulate, tabulate-is}
 use Rattle.lists.proofs.Bits.{value-lt, value-split}
 use Rattle.place.specs.declared.Slicer.{Slicer}
-use Rattle.kernels.specs.Slices.{slicedBit, sliced, streamsOf}
-use Rattle.kernels.specs.Inner.{bitsInTurn, apartOf, joined, bytesOf}
-use Rattle.kernels.proofs.Slicing.{slicedBit-lt, sliced-length, streams-length}
+use Rattle.kernels.specs.Slices.{slicedBit, markBit, sliced, marks, streamsOf, marksOf}
+use Rattle.kernels.specs.Inner.{measuresOf, bitsInTurn, marksInTurn, apartOf, joined, bytesOf}
+use Rattle.kernels.proofs.Slicing.{slicedBit-lt, markBit-lt, bits-turned, marks-turned}
 
 -- two stores, one in each stream
 pub apart-more : (bits xs : List ℕ) (i : ℕ) → i < 144 → Where 0 (λ (j : ℕ). getD bits (2 * (j % 144) + j / 144) 0) 288 xs (λ (j : ℕ). j % 144 < i)
@@ -95,41 +96,46 @@ module _ (f : ℕ → ℕ) (bit : (i : ℕ) → f i < 2) where
       (getD-tabulate 72 g (2 * i) 0 (omega arith) ∙ rw a)
       (getD-tabulate 72 g (2 * i + 1) 0 (omega arith) ∙ rw b))
 
-module _ (slicer : Slicer) (row : List Float) where
-  -- the bits of stream 0, then those of stream 1
+-- the bits of two streams
+module _ (f : ℕ → ℕ → ℕ) (bit : (stream i : ℕ) → f stream i < 2) where
+  -- those of stream 0, then those of stream 1
   abbrev streamBit : ℕ → ℕ
-  streamBit j = slicedBit slicer row (j / 144) (j % 144)
+  streamBit j = f (j / 144) (j % 144)
 
-  apart : apartOf (bitsInTurn slicer row) ≡ tabulate 288 streamBit
-  unfolding apartOf bitsInTurn
+  apart : apartOf (tabulate 288 (λ (j : ℕ). f (j % 2) (j / 2))) ≡ tabulate 288 streamBit
+  unfolding apartOf
   apart =
-      let g : ℕ → ℕ = λ (j : ℕ). slicedBit slicer row (j % 2) (j / 2) in
+      let g : ℕ → ℕ = λ (j : ℕ). f (j % 2) (j / 2) in
       same 288 (λ (j : ℕ). getD (tabulate 288 g) (2 * (j % 144) + j / 144) 0) streamBit
       (λ j l.
       let a : (2 * (j % 144) + j / 144) % 2 ≡ j / 144 = omega arith in
       let b : (2 * (j % 144) + j / 144) / 2 ≡ j % 144 = omega arith in
       getD-tabulate 288 g (2 * (j % 144) + j / 144) 0 (omega arith) ∙ rw (a, b))
 
+  stream-length : (s : ℕ) → length (packed 18 (f s)) ≡ 18
+  unfolding packed
+  stream-length s = length-tabulate 18 (λ (k : ℕ). value (f s) (8 * k) 8)
+
   -- byte n of a stream
-  byte-is : (s n : ℕ) → n < 18 → getD (sliced slicer row s) n 0 ≡ value streamBit (8 * (18 * s + n)) 8
-  unfolding sliced packed
+  byte-is : (s n : ℕ) → n < 18 → getD (packed 18 (f s)) n 0 ≡ value streamBit (8 * (18 * s + n)) 8
+  unfolding packed
   byte-is s n h =
-      getD-tabulate 18 (λ (k : ℕ). value (slicedBit slicer row s) (8 * k) 8) n 0 h
-      ∙ value-same (slicedBit slicer row s) streamBit (8 * n) (8 * (18 * s + n)) 8
+      getD-tabulate 18 (λ (k : ℕ). value (f s) (8 * k) 8) n 0 h
+      ∙ value-same (f s) streamBit (8 * n) (8 * (18 * s + n)) 8
       (λ m l.
       let a : 8 * (18 * s + n) + m ≡ 144 * s + (8 * n + m) = omega arith in
       let b : (144 * s + (8 * n + m)) / 144 ≡ s = omega arith in
       let c : (144 * s + (8 * n + m)) % 144 ≡ 8 * n + m = omega arith in
       rw (a, b, c))
 
-  both : packed 36 streamBit ≡ streamsOf slicer row
-  unfolding packed streamsOf
+  both : packed 36 streamBit ≡ packed 18 (f 0) ++ packed 18 (f 1)
+  unfolding packed
   both =
-      let p = sliced slicer row 0 in
-      let q = sliced slicer row 1 in
-      let e = sliced-length slicer row 0 in
+      let p = packed 18 (f 0) in
+      let q = packed 18 (f 1) in
+      let e = stream-length 0 in
       sym
-      (tabulate-is 0 (λ (k : ℕ). value streamBit (8 * k) 8) 36 (p ++ q) (streams-length slicer row)
+      (tabulate-is 0 (λ (k : ℕ). value streamBit (8 * k) 8) 36 (p ++ q) (rw (length-append, stream-length 0, stream-length 1))
       (λ k h. elim (ℕ-discrete (k / 18) 0) [
         | yes first ↦
             let a : 18 * 0 + k ≡ k = omega arith in
@@ -140,8 +146,18 @@ module _ (slicer : Slicer) (row : List Float) where
             ap (λ (m : ℕ). getD (p ++ q) m 0) b ∙ (getD-append-add p q (k - 18) 0 ∙ (byte-is 1 (k - 18) (omega arith) ∙ rw a))
       ]))
 
-  pub bytes-are : {bits p : List ℕ} → bits ≡ bitsInTurn slicer row → p ≡ bytesOf bits → p ≡ streamsOf slicer row
+  bytes-are : {bits p : List ℕ} → bits ≡ tabulate 288 (λ (j : ℕ). f (j % 2) (j / 2)) → p ≡ bytesOf bits → p ≡ packed 18 (f 0) ++ packed 18 (f 1)
   unfolding bytesOf
   bytes-are e g =
-      let l : (j : ℕ) → streamBit j < 2 = λ j. slicedBit-lt slicer row (j / 144) (j % 144) in
+      let l : (j : ℕ) → streamBit j < 2 = λ j. bit (j / 144) (j % 144) in
       g ∙ rw (e, apart, pairs streamBit l, fours streamBit l, bytes streamBit l, both)
+
+-- of a slicer
+module _ (slicer : Slicer) (row : List Float) {m : List Float} {bits p : List ℕ} (e : m ≡ measuresOf slicer row) where
+  pub streams-are : bits ≡ bitsInTurn m → p ≡ bytesOf bits → p ≡ streamsOf slicer row
+  unfolding streamsOf sliced
+  streams-are f g = bytes-are (slicedBit slicer row) (slicedBit-lt slicer row) (f ∙ rw e (bits-turned slicer row)) g
+
+  pub marks-are : bits ≡ marksInTurn m → p ≡ bytesOf bits → p ≡ marksOf slicer row
+  unfolding marksOf marks
+  marks-are f g = bytes-are (markBit slicer row) (markBit-lt slicer row) (f ∙ rw e (marks-turned slicer row)) g

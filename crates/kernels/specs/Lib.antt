@@ -1,5 +1,6 @@
 pub mod Symbols
 pub mod Slices
+pub mod Undecided
 pub mod Powers
 pub mod Both
 pub mod Around

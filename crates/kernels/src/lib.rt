@@ -2,7 +2,9 @@
 pub mod around;
 pub mod both;
 mod complex;
+mod measure;
 mod norms;
 pub mod power;
 pub mod slicers;
 pub mod symbols;
+pub mod undecided;

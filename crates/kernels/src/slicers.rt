@@ -1,64 +1,47 @@
 // Bits of symbols: each bit compares two symbols that follow one another.
 // All bits of a row are found in one loop and joined to bytes in others: such loops are done on many numbers at once.
 use crate::complex::complex_at;
+use crate::measure::bit_of_pair;
+use crate::measure::mark_of_pair;
+use crate::measure::measure;
 use place::Slicer;
 ghost use mathlib.Core.Path.{_≡_};
 ghost use Prim.Native.Nat.{_*_, _<_, _≤_};
 ghost use lib.ListN.{length};
-ghost use Rattle.lists.specs.Bits.{asBit};
 ghost use Rattle.place.specs.declared.Slicer.the-variants.{Coherent, Noncoherent};
-ghost use Rattle.kernels.specs.Slices.{streamsOf, demodulated};
-ghost use Rattle.kernels.specs.Inner.{normsOf, bitsInTurn, apartOf, joined, bytesOf};
+ghost use Rattle.kernels.specs.Slices.{streamsOf, marksOf, demodulated};
+ghost use Rattle.kernels.specs.Inner.{measuresOf, bitsInTurn, marksInTurn, apartOf, joined, bytesOf};
 
-// A truth as a bit.
-fn bit(t: bool) -> u8
-    ensures { λ r. ⌜ r ≡ asBit t ⌝ }
-{
-    if t { 1 } else { 0 }
-}
-
-// The bits of both streams in turn, by real parts. The last symbol has none after it.
-fn compare_reals(row: &[f32], bits: &mut [u8])
-    requires { ⌜ (length (now row) ≡ 576) × (length (now bits) ≡ 288) ⌝ }
-    ensures { λ _. ⌜ now (bits .exit) ≡ bitsInTurn Coherent (now (row .entry)) ⌝ }
-{
-    for i in 0..287 {
-        bits[i] = bit(row[2 * i] > row[2 * (i + 1)]);
-    }
-    bits[287] = 0;
-}
-
-// The norms, each found once.
-fn find_norms(row: &[f32], norms: &mut [f32])
-    requires { ⌜ (length (now row) ≡ 576) × (length (now norms) ≡ 288) ⌝ }
-    ensures { λ _. ⌜ now (norms .exit) ≡ normsOf (now (row .entry)) ⌝ }
+// What is compared, each number found once.
+fn find_measures(row: &[f32], slicer: Slicer, measures: &mut [f32])
+    requires { ⌜ (length (now row) ≡ 576) × (length (now measures) ≡ 288) ⌝ }
+    ensures { λ _. ⌜ now (measures .exit) ≡ measuresOf slicer (now (row .entry)) ⌝ }
 {
     for i in 0..288 {
-        norms[i] = complex_at(row, i).norm();
+        measures[i] = measure(slicer, complex_at(row, i));
     }
 }
 
-// The bits of both streams in turn, by norms.
-fn compare_norms(row: &[f32], bits: &mut [u8])
-    requires { ⌜ (length (now row) ≡ 576) × (length (now bits) ≡ 288) ⌝ }
-    ensures { λ _. ⌜ now (bits .exit) ≡ bitsInTurn Noncoherent (now (row .entry)) ⌝ }
+// The bits of both streams in turn. The last symbol has none after it.
+fn compare(measures: &[f32], bits: &mut [u8])
+    requires { ⌜ (length (now measures) ≡ 288) × (length (now bits) ≡ 288) ⌝ }
+    ensures { λ _. ⌜ now (bits .exit) ≡ bitsInTurn (now (measures .entry)) ⌝ }
 {
-    let mut norms = [0.0f32; 288];
-    find_norms(row, &mut norms);
     for i in 0..287 {
-        bits[i] = bit(norms[i] > norms[i + 1]);
+        bits[i] = bit_of_pair(measures[i], measures[i + 1]);
     }
     bits[287] = 0;
 }
 
-fn compare(row: &[f32], slicer: Slicer, bits: &mut [u8])
-    requires { ⌜ (length (now row) ≡ 576) × (length (now bits) ≡ 288) ⌝ }
-    ensures { λ _. ⌜ now (bits .exit) ≡ bitsInTurn slicer (now (row .entry)) ⌝ }
+// Their marks. The last bit was never decided.
+fn mark(measures: &[f32], marks: &mut [u8])
+    requires { ⌜ (length (now measures) ≡ 288) × (length (now marks) ≡ 288) ⌝ }
+    ensures { λ _. ⌜ now (marks .exit) ≡ marksInTurn (now (measures .entry)) ⌝ }
 {
-    match slicer {
-        Slicer::Coherent => compare_reals(row, bits),
-        Slicer::Noncoherent => compare_norms(row, bits),
+    for i in 0..287 {
+        marks[i] = mark_of_pair(measures[i], measures[i + 1]);
     }
+    marks[287] = 1;
 }
 
 // The bits of stream 0, then those of stream 1.
@@ -96,19 +79,30 @@ fn pack(bits: &[u8], out: &mut [u8])
     join(&fours, 4, out);
 }
 
-// Both streams of one slicer.
-fn slice_streams(row: &[f32], slicer: Slicer, out: &mut [u8])
-    requires { ⌜ (length (now row) ≡ 576) × (length (now out) ≡ 36) ⌝ }
-    ensures { λ _. ⌜ now (out .exit) ≡ streamsOf slicer (now (row .entry)) ⌝ }
+// Both streams of one slicer, and their marks.
+fn slice_streams(row: &[f32], slicer: Slicer, out: &mut [u8], out_marks: &mut [u8])
+    requires { ⌜ (length (now row) ≡ 576) × (length (now out) ≡ 36) × (length (now «out_marks») ≡ 36) ⌝ }
+    ensures { λ _. ⌜ (now (out .exit) ≡ streamsOf slicer (now (row .entry))) × (now («out_marks» .exit) ≡ marksOf slicer (now (row .entry))) ⌝ }
 {
+    let mut measures = [0.0f32; 288];
     let mut bits = [0u8; 288];
-    compare(row, slicer, &mut bits);
+    find_measures(row, slicer, &mut measures);
+    compare(&measures, &mut bits);
     pack(&bits, out);
+    mark(&measures, &mut bits);
+    pack(&bits, out_marks);
 }
 
-// Both streams of both slicers, of the symbols of one clock phase.
-pub fn demodulate(row: &[f32], coherent: &mut [u8], noncoherent: &mut [u8]) -> u32
-    ensures { λ r. ⌜ (r, now (coherent .exit), now (noncoherent .exit)) ≡ demodulated (now (row .entry)) (now (coherent .entry)) (now (noncoherent .entry)) ⌝ }
+// Both streams of both slicers, of the symbols of one clock phase, with the marks of their undecided bits. Refused: 2 a row that has not
+// 576 numbers, 3 an output that has not 36 bytes; then nothing is written.
+pub fn demodulate(
+    row: &[f32],
+    coherent: &mut [u8],
+    noncoherent: &mut [u8],
+    coherent_marks: &mut [u8],
+    noncoherent_marks: &mut [u8],
+) -> u32
+    ensures { λ r. ⌜ (r, now (coherent .exit), now (noncoherent .exit), now («coherent_marks» .exit), now («noncoherent_marks» .exit)) ≡ demodulated (now (row .entry)) (now (coherent .entry), now (noncoherent .entry), now («coherent_marks» .entry), now («noncoherent_marks» .entry)) ⌝ }
 {
     if row.len() != 576 {
         return 2;
@@ -119,7 +113,13 @@ pub fn demodulate(row: &[f32], coherent: &mut [u8], noncoherent: &mut [u8]) -> u
     if noncoherent.len() != 36 {
         return 3;
     }
-    slice_streams(row, Slicer::Coherent, coherent);
-    slice_streams(row, Slicer::Noncoherent, noncoherent);
+    if coherent_marks.len() != 36 {
+        return 3;
+    }
+    if noncoherent_marks.len() != 36 {
+        return 3;
+    }
+    slice_streams(row, Slicer::Coherent, coherent, coherent_marks);
+    slice_streams(row, Slicer::Noncoherent, noncoherent, noncoherent_marks);
     0
 }

@@ -1,18 +1,20 @@
 -- Laws of bits and bytes.
 --     bitAt-packed               the bits of packed bytes
 --     byte-whole, byte-across    eight bits that start at a byte, and inside one
+--     howMany-                   how many bits are 1: the same of the same bits; at most all; of none each is 0
 -- Assumes nothing.
 use mathlib.Core.Path.{_≡_, refl, sym, ap, _∙_, subst}
 use mathlib.Core.List.{List}
-use Prim.Native.Nat.{ℕ, zero, suc, _+_, _-_, _*_, _/_, _%_, _^_, _<_}
+use Prim.Native.Nat.{ℕ, zero, suc, _+_, _-_, _*_, _/_, _%_, _^_, _<_, _≤_}
 use native.Mathlib.Nat.{pow-succ', pow-suc, div-div-eq-div-mul, mod-eq-of-lt, add-zero, add-suc, mul-assoc, mul-mod-left, div-one}
+use native.Mathlib.Decide.{ℕ-discrete}
 use native.Mathlib.Omega.{arith}
 use lib.ListN.{getD}
 use lib.Bits.{bitOr, or-shifted}
 use lib.Pow.{pow-pos, pow-add, shr-lt, shl-shr}
 use lib.Arith.{mod-mul}
 use lib.Dec.{lit<}
-use Rattle.lists.specs.Bits.{bitAt, value, packed}
+use Rattle.lists.specs.Bits.{bitAt, value, packed, howMany}
 use Rattle.lists.proofs.Table.{getD-tabulate}
 
 pub bitAt-lt : (bs : List ℕ) (j : ℕ) {b : ℕ} → b ≡ bitAt bs j → b < 2
@@ -94,3 +96,23 @@ byte-across bs n o hi h =
     let v : value (bitAt bs) (8 * n + o) 8 ≡ value (bitAt bs) (8 * n + o) (8 - o) * 2 ^ o + value (bitAt bs) (8 * n + o + (8 - o)) o =
     rw s at (value-split (bitAt bs) (8 * n + o) (8 - o) o) in
     rw (a, or-shifted (x % 2 ^ (8 - o)) o (y / 2 ^ (8 - o)) b, v, t, byte-bits bs n o (8 - o) 0 (omega arith), byte-bits bs (n + 1) 0 o (8 - o) (omega arith), mod-eq-of-lt b, div-one)
+
+-- ---- how many bits are 1
+
+pub howMany-same : (f g : ℕ → ℕ) (n : ℕ) → ((j : ℕ) → j < n → f j ≡ g j) → howMany f n ≡ howMany g n
+unfolding howMany
+howMany-same f g zero each = refl
+howMany-same f g (suc n) each = rw (howMany-same f g n (λ j l. each j (omega arith)), each n (omega arith))
+
+pub howMany-le : (f : ℕ → ℕ) → ((i : ℕ) → f i < 2) → (n : ℕ) → howMany f n ≤ n
+unfolding howMany
+howMany-le f bit zero = omega arith
+howMany-le f bit (suc n) = omega (arith, howMany-le f bit n, bit n)
+
+pub howMany-none : (f : ℕ → ℕ) (n : ℕ) → howMany f n ≡ 0 → (j : ℕ) → j < n → f j ≡ 0
+unfolding howMany
+howMany-none f (suc n) e j l = elim (ℕ-discrete j n) [
+  | yes q ↦ rw q (omega arith)
+  | no q ↦ howMany-none f n (omega arith) j (omega arith)
+]
+howMany-none f zero e j l = absurd (omega arith)

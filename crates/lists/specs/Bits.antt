@@ -23,3 +23,8 @@ value f j (suc n) = value f j n * 2 + f (j + n)
 -- n bytes, whose bits are f 0, f 1, ..
 unfoldable pub packed : ℕ → (ℕ → ℕ) → List ℕ
 packed n f = tabulate n (λ (k : ℕ). value f (8 * k) 8)
+
+-- how many of the n bits f 0, f 1, .. are 1
+unfoldable pub howMany : (ℕ → ℕ) → ℕ → ℕ
+howMany f zero = 0
+howMany f (suc n) = howMany f n + f n

@@ -61,6 +61,7 @@ noCandidate kind =
       message = replicate (kind .bytes) 0;
       prompt = zeroF;
       cn0 = zeroF;
+      undecided = 0;
     }
 
 abbrev pub refusedAnswer : Kind → ℕ → Answer
@@ -74,6 +75,7 @@ refusedAnswer kind n =
       cn0 = zeroF;
       index = 0;
       fraction = zeroF;
+      undecided = 0;
     }
 
 -- ---- answers
@@ -119,6 +121,7 @@ answerOf kind samples index c =
       cn0 = c .cn0;
       index = indexOf index (sampleStart (c .place)) (t .moves);
       fraction = t .fraction;
+      undecided = c .undecided;
     }
 
 abbrev pub answered : Kind → List Float → ℕ → Option Candidate → Answer

@@ -19,7 +19,7 @@ use Rattle.search.specs.Kinds.{Kind, placesOf}
 use Rattle.search.specs.Window.{Window}
 use Rattle.search.specs.Trials.{reading}
 
--- a reading at a place, with its message, power and cn0
+-- a reading at a place, with its message, power and cn0. What it counts are marks of the sliced bits: a repair takes none away
 unfoldable pub candidate : Window → Place → Reading → Candidate
 candidate w p r =
     let message = repaired (w .bits (r .slicer) p) (r .repairs) in
@@ -31,6 +31,7 @@ candidate w p r =
       message = message;
       prompt = w .prompt p message;
       cn0 = w .cn0 p message;
+      undecided = w .undecided (r .slicer) p;
     }
 
 abbrev pub isNoncoherent : Slicer → Bool

@@ -4,12 +4,13 @@ use mathlib.Core.List.{List}
 use Prim.Native.Nat.{ℕ, _*_}
 use lib.ListN.{take, drop}
 use lib.Ieee.{Float}
+use Rattle.lists.specs.Bits.{bitAt, howMany}
 use Rattle.place.specs.declared.Place.{Place}
 use Rattle.place.specs.declared.Slicer.{Slicer}
 use Rattle.place.specs.declared.Slicer.the-variants.{Coherent, Noncoherent}
 use Rattle.parts.specs.Part.{symbolsFor, samplesFor}
 use Rattle.kernels.specs.Symbols.{symbolsOf}
-use Rattle.kernels.specs.Slices.{sliced}
+use Rattle.kernels.specs.Slices.{sliced, marks}
 use Rattle.kernels.specs.Powers.{powerOf, noiseOf}
 use Rattle.streams.specs.Streams.{messageAt}
 use Rattle.streams.specs.Distances.{differing}
@@ -29,6 +30,13 @@ stream samples slicer p = sliced slicer (row samples (p .phase)) (p .symbol)
 unfoldable pub bitsAt : ℕ → List Float → Slicer → Place → List ℕ
 bitsAt n samples slicer p = messageAt (stream samples slicer p) n (p .bit)
 
+-- their marks, and how many of them were undecided
+unfoldable pub marksAt : ℕ → List Float → Slicer → Place → List ℕ
+marksAt n samples slicer p = messageAt (marks slicer (row samples (p .phase)) (p .symbol)) n (p .bit)
+
+unfoldable pub undecidedAt : ℕ → List Float → Slicer → Place → ℕ
+undecidedAt n samples slicer p = howMany (bitAt (marksAt n samples slicer p)) (8 * n)
+
 -- the power of a message in its pulses, and beside them
 unfoldable pub promptAt : ℕ → List Float → Place → List ℕ → Float
 promptAt n samples p message = powerOf n (symbolsFor n (row samples (p .phase)) p) message
@@ -41,6 +49,7 @@ unfoldable pub windowOf : ℕ → List Float → Window
 windowOf n samples =
     record {
       bits = bitsAt n samples;
+      undecided = undecidedAt n samples;
       distance = λ p. differing (bitsAt n samples Coherent p) (bitsAt n samples Noncoherent p) (8 * n);
       prompt = promptAt n samples;
       cn0 = λ p message. cn0Of (promptAt n samples p message) (noiseAt n samples p message);

@@ -18,6 +18,7 @@ shortCandidate c =
       message = c .message;
       prompt = c .prompt;
       cn0 = c .cn0;
+      undecided = c .undecided;
     }
 
 abbrev pub shortSurvivor : Survivor → ShortSurvivor
@@ -34,6 +35,7 @@ shortAnswer a =
       cn0 = a .cn0;
       index = a .index;
       fraction = a .fraction;
+      undecided = a .undecided;
     }
 
 -- and back
@@ -48,4 +50,5 @@ ofShort a =
       cn0 = a .cn0;
       index = a .index;
       fraction = a .fraction;
+      undecided = a .undecided;
     }

@@ -18,6 +18,8 @@ p ∈ places = List·Memᴰ p places
 pub record Window : Type 0 where
   -- the bits of a slicer at a place
   pub bits : Slicer → Place → List ℕ
+  -- how many of them were undecided
+  pub undecided : Slicer → Place → ℕ
   -- in how many of them the two slicers differ
   pub distance : Place → ℕ
   -- prompt power and cn0 of a message at a place

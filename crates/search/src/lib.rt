@@ -25,7 +25,7 @@ pub enum Tried {
     Fail,
 }
 
-// A reading at a place, with its message, prompt power and cn0.
+// A reading at a place, with its message, prompt power and cn0, and how many of the bits that were sliced for it were undecided.
 pub struct Candidate {
     pub place: Place,
     pub trial: u8,
@@ -34,6 +34,7 @@ pub struct Candidate {
     pub message: [u8; 14],
     pub prompt: f32,
     pub cn0: f32,
+    pub undecided: u32,
 }
 
 // The surviving reading of a place, or of all places. Number 1 is none, other numbers are refusals, with zeros.
@@ -66,6 +67,7 @@ pub struct Answer {
     pub cn0: f32,
     pub index: u64,
     pub fraction: f32,
+    pub undecided: u32,
 }
 
 // The same for short messages: 7 bytes.
@@ -77,6 +79,7 @@ pub struct ShortCandidate {
     pub message: [u8; 7],
     pub prompt: f32,
     pub cn0: f32,
+    pub undecided: u32,
 }
 
 pub struct ShortSurvivor {
@@ -93,6 +96,7 @@ pub struct ShortAnswer {
     pub cn0: f32,
     pub index: u64,
     pub fraction: f32,
+    pub undecided: u32,
 }
 
 // Both searches of one window.

@@ -1,50 +1,84 @@
--- `kernels::slicers::compare` meets its contract, by cases of the slicer. Assumes nothing.
-use mathlib.Core.Path.{_≡_}
-use mathlib.Core.List.{List}
-use Prim.Native.Nat.{ℕ}
-use lib.Ieee.{Float}
-use Rattle.place.specs.declared.Slicer.{Slicer}
-use Rattle.kernels.specs.Inner.{bitsInTurn}
+-- `kernels::slicers::compare` meets its contract. The loop: the first i bits are stored. Assumes nothing.
+use mathlib.Core.Path.{sym, _∙_}
+use Prim.Native.Nat.{_-_, _≤_}
+use native.Mathlib.Omega.{arith}
+use lib.ListN.{length-set}
+use lib.Ieee.{lt}
+use Rattle.lists.proofs.Table.{Done, done-none, done-more}
+use Rattle.kernels.specs.Inner.{inTurn}
+use Rattle.kernels.proofs.Slicing.{turn-inside, bits-done}
 use borrow.Author.Needs.{needs}
 use Rattle.kernels.proofs.slicers.compare.Statement.{statement}
 use Rattle.kernels.proofs.slicers.compare.Tie as tie
 
-bits-by : (row : List Float) {k l : Slicer} {xs : List ℕ} → k ≡ l → xs ≡ bitsInTurn l row → xs ≡ bitsInTurn k row
-bits-by row e f = rw e f
+abbrev Inv-loop : tie.InvT-loop
+Inv-loop measures bits₀ i₀ bits i = (i ≤ 287) × Done 0 (inTurn (λ a b. lt b a) 0 measures) 288 bits i
 
-enum-told : tie.Need-enum-told
-enum-told c = search needs
+abbrev μ-loop : tie.MeasureT-loop
+μ-loop measures bits₀ i₀ bits i = 287 - i
 
-compare-reals-requires : tie.Need-compare-reals-requires
-compare-reals-requires c κs = search needs
+loop-holds : tie.Need-loop-holds Inv-loop μ-loop
+loop-holds c = (search needs, done-none _ _ _ _ (c .before .before .pre .1))
 
-enum-told-2 : tie.Need-enum-told-2
-enum-told-2 c = search needs
+mul-bit-of-pair : tie.Need-mul-bit-of-pair Inv-loop μ-loop
+mul-bit-of-pair c = search needs
 
-compare-norms-requires : tie.Need-compare-norms-requires
-compare-norms-requires c κs = search needs
+shared-slice-read-bit-of-pair : tie.Need-shared-slice-read-bit-of-pair Inv-loop μ-loop
+shared-slice-read-bit-of-pair c = search needs
 
-same-length : tie.Need-same-length
-same-length c = search needs
+add-bit-of-pair : tie.Need-add-bit-of-pair Inv-loop μ-loop
+add-bit-of-pair c = search needs
 
-returns : tie.Need-returns
-returns c = bits-by _ (c .before .before .before .before .enum-told .given .1) (c .before .before .compare-reals .ensures)
+mul-bit-of-pair-2 : tie.Need-mul-bit-of-pair-2 Inv-loop μ-loop
+mul-bit-of-pair-2 c = search needs
 
-same-length-2 : tie.Need-same-length-2
-same-length-2 c = search needs
+shared-slice-read-bit-of-pair-2 : tie.Need-shared-slice-read-bit-of-pair-2 Inv-loop μ-loop
+shared-slice-read-bit-of-pair-2 c = search needs
 
-returns-2 : tie.Need-returns-2
-returns-2 c = bits-by _ (c .before .before .before .before .enum-told2 .given .1) (c .before .before .compare-norms .ensures)
+bit-of-pair-requires : tie.Need-bit-of-pair-requires Inv-loop μ-loop
+bit-of-pair-requires c κs = search needs
+
+slice-write-bits : tie.Need-slice-write-bits Inv-loop μ-loop
+slice-write-bits c = search needs
+
+add-i : tie.Need-add-i Inv-loop μ-loop
+add-i c = search needs
+
+loop-less : tie.Need-loop-less Inv-loop μ-loop
+loop-less c = search needs
+
+loop-again : tie.Need-loop-again Inv-loop μ-loop
+loop-again c =
+    let l = c .before .before .before .before .loop in
+    let xs = c .before .before .before .before .before .before .before .args .measures .now in
+    (search needs, done-more _ _ _ _ _ _ (omega arith) (l .inv .1) (turn-inside (λ a b. lt b a) 0 xs (l .i) (c .before .before .before .loop-test .taken) (c .bit-of-pair .ensures)))
+
+slice-write-bits-2 : tie.Need-slice-write-bits-2 Inv-loop μ-loop
+slice-write-bits-2 c = search needs
+
+same-length : tie.Need-same-length Inv-loop μ-loop
+same-length c = length-set (c .before .loop .bits) 287 0 ∙ (c .before .loop .inv .1 .size ∙ sym (c .before .before .before .before .pre .1))
+
+returns : tie.Need-returns Inv-loop μ-loop
+returns c = bits-done _ _ _ (c .before .loop .inv .0) (c .loop-test .left) (c .before .loop .inv .1)
 
 pub compare-spec : {M : Type 1} → statement M
 compare-spec =
     tie.close
     (tie.spec
-    enum-told
-    compare-reals-requires
-    enum-told-2
-    compare-norms-requires
+    Inv-loop
+    μ-loop
+    loop-holds
+    mul-bit-of-pair
+    shared-slice-read-bit-of-pair
+    add-bit-of-pair
+    mul-bit-of-pair-2
+    shared-slice-read-bit-of-pair-2
+    bit-of-pair-requires
+    slice-write-bits
+    add-i
+    loop-less
+    loop-again
+    slice-write-bits-2
     same-length
-    returns
-    same-length-2
-    returns-2)
+    returns)

@@ -1,19 +1,24 @@
 -- WHAT IS CLAIMED OF A DECODE HOLDS of `decodeOf`, for all samples, settings and indices.
 -- Assumes nothing.
 use mathlib.Core.Path.{_≡_, refl, sym, ap, _∙_, subst}
+use mathlib.Core.Bool.{Bool, true, false, not, _&&_}
 use mathlib.Core.List.{List}
-use mathlib.Core.Logic.{_↔_, _≢_}
+use mathlib.Core.Logic.{_⊎_, inl, inr, _↔_, _≢_}
 use mathlib.Core.Option.{some}
 use Prim.Native.Nat.{ℕ, _*_, _≤_, _<_}
+use native.Mathlib.Decide.{ℕ-discrete}
 use native.Mathlib.Omega.{arith}
 use lib.Ieee.{Float}
-use Rattle.lists.specs.Bits.{bitAt}
+use Rattle.lists.specs.Bits.{asBit, bitAt, howMany}
+use Rattle.lists.proofs.Bits.{howMany-none}
 use Rattle.annex10.specs.Repair.{count, Named, Proper, repaired}
 use Rattle.annex10.specs.declared.Repairs.{Repairs}
 use Rattle.annex10.proofs.Repairing.{changed}
+use Rattle.math.specs.declared.Complex.{Complex}
 use Rattle.place.specs.declared.Place.{Place}
 use Rattle.place.specs.declared.Slicer.{Slicer}
 use Rattle.place.proofs.Within.{listed-gives}
+use Rattle.kernels.specs.Slices.{greaterBy, undecided}
 use Rattle.search.specs.declared.Settings.{Settings}
 use Rattle.search.specs.declared.Candidate.{Candidate}
 use Rattle.search.specs.declared.Answer.{Answer}
@@ -23,10 +28,10 @@ use Rattle.search.specs.Choice.{best}
 use Rattle.search.specs.Seen.{bitsAt, windowOf, seen}
 use Rattle.search.specs.Answers.{answerOf, refusedAnswer, decodeOf}
 use Rattle.search.proofs.Scanning.{not-some}
-use Rattle.claims.specs.Bits.{slicerBit}
+use Rattle.claims.specs.Bits.{firstHalf, secondHalf, slicerBit, coinToss}
 use Rattle.claims.specs.Fits.{Fits}
 use Rattle.claims.specs.Calls.{Accepted}
-use Rattle.claims.specs.Audited.{Returned, Zeros, Answered, atLevel, Audited}
+use Rattle.claims.specs.Audited.{Received, Returned, Zeros, Answered, atLevel, Audited}
 use Rattle.claims.proofs.Fitting.{not-silent}
 use Rattle.claims.proofs.Uses.{Sound, places-of, sized, search-of, heard-of, sound-long, sound-short}
 use Rattle.claims.proofs.Calls.{wrong-length, wrong-level, wrong-thresholds, wrong-index, nothing, something, ends, numbered}
@@ -47,6 +52,23 @@ module _ (kind : Kind) (samples : List Float) (s : Settings) (index : ℕ) where
   ]
 
 -- ---- the answer with number 0
+
+-- two numbers that are not unlike are the same
+like : (x y : ℕ) → ¬ (x ≢ y) → x ≡ y
+like x y h = elim (ℕ-discrete x y) [
+  | yes e ↦ e
+  | no n ↦ absurd (h n)
+]
+
+-- a bit that was no coin toss: one half is strictly greater, and the bit says which
+heard-well : (slicer : Slicer) (a b : Complex) {m : ℕ} → m ≡ asBit (greaterBy slicer a b) → asBit (undecided slicer a b) ≡ 0
+    → ((m ≡ 1) × (greaterBy slicer a b ≡ true)) ⊎ ((m ≡ 0) × (greaterBy slicer b a ≡ true))
+heard-well slicer a b {m} = go (greaterBy slicer a b) (greaterBy slicer b a)
+  where
+    go : (s t : Bool) → m ≡ asBit s → asBit (not s && not t) ≡ 0 → ((m ≡ 1) × (s ≡ true)) ⊎ ((m ≡ 0) × (t ≡ true))
+    go true t e z = inl (e, refl)
+    go false true e z = inr (e, refl)
+    go false false e z = absurd (omega arith)
 
 -- the search found c
 module _ (kind : Kind) (sound : Sound kind) (samples : List Float) (s : Settings) (index : ℕ) (c : Candidate) (b : best kind s (seen kind samples) ≡ some c) where
@@ -70,6 +92,19 @@ module _ (kind : Kind) (sound : Sound kind) (samples : List Float) (s : Settings
       rw (made, ← heard-of kind sound samples .heard (c .slicer) (c .place) (places-of kind .each (c .place) .0 among) j (omega arith))
       (changed bits (c .repairs) proper j)
 
+  -- its coin tosses, by the marks that were counted and by the samples
+  tossed : c .undecided ≡ howMany (coinToss samples (c .slicer) (c .place)) (8 * kind .bytes)
+  unfolding windowOf
+  tossed =
+      search-of kind sound samples s .returns c .0 b .1 .undecided
+      ∙ heard-of kind sound samples .counted (c .slicer) (c .place) (places-of kind .each (c .place) .0 among)
+
+  received : c .undecided ≡ 0 → (j : ℕ) → j < 8 * kind .bytes → ¬ Named j (c .repairs) → Received samples (answerOf kind samples index c) j
+  unfolding answerOf slicerBit coinToss
+  received z j h n =
+      heard-well (c .slicer) (firstHalf samples (c .place) j) (secondHalf samples (c .place) j) (like (bitAt (c .message) j) (slicerBit samples (c .slicer) (c .place) j) (λ u. n (differs j h .0 u)))
+      (howMany-none (coinToss samples (c .slicer) (c .place)) (8 * kind .bytes) (sym tossed ∙ z) j h)
+
   returned : Returned kind samples s index (answerOf kind samples index c)
   unfolding answerOf windowOf
   returned =
@@ -80,6 +115,8 @@ module _ (kind : Kind) (sound : Sound kind) (samples : List Float) (s : Settings
         message = made;
         cn0 = f .cn0;
         differs = differs;
+        undecided = tossed;
+        received = received;
         only-repair = q .reads-first (c .place) .only (c .slicer) (c .repairs) fitting;
         timed = timed kind samples index c (listed-gives (kind .last) (c .place) (places-of kind .each (c .place) .0 among) .from);
       }
@@ -87,7 +124,7 @@ module _ (kind : Kind) (sound : Sound kind) (samples : List Float) (s : Settings
 -- ---- every answer
 
 no-message : (kind : Kind) (n : ℕ) → Zeros kind (refusedAnswer kind n)
-no-message kind n = record { place = refl; message = refl; repairs = refl; slicer = refl; cn0 = refl; index = refl; fraction = refl }
+no-message kind n = record { place = refl; message = refl; repairs = refl; slicer = refl; cn0 = refl; index = refl; fraction = refl; undecided = refl }
 
 module _ (kind : Kind) (sound : Sound kind) (samples : List Float) (s : Settings) (index : ℕ) where
   abbrev it : Answer

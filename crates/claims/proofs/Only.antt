@@ -68,6 +68,7 @@ module _ (kind : Kind) (sound : Sound kind) (samples : List Float) (s : Settings
           cn0 = x .cn0 ∙ rw (p, z, r) (sym (y .cn0));
           index = cc;
           fraction = one-fraction p m (x .timed) (y .timed);
+          undecided = x .undecided ∙ rw (p, z) (sym (y .undecided));
         }
 
     no-message : a .number ≡ b .number → Zeros kind a → Zeros kind b → Same a b
@@ -81,6 +82,7 @@ module _ (kind : Kind) (sound : Sound kind) (samples : List Float) (s : Settings
           cn0 = x .cn0 ∙ sym (y .cn0);
           index = x .index ∙ sym (y .index);
           fraction = inl (rw (x .fraction, y .fraction) zero-is);
+          undecided = x .undecided ∙ sym (y .undecided);
         }
 
     pub one-answer : Answered kind samples s index a → Answered kind samples s index b → Same a b

@@ -9,23 +9,31 @@ use Prim.Native.Nat.{ℕ, _*_, _≤_, _<_}
 use lib.ListN.{replicate}
 use lib.Ieee.{Float, eq, isNan}
 use Rattle.floats.specs.Numbers.{zeroF}
-use Rattle.lists.specs.Bits.{bitAt}
+use Rattle.lists.specs.Bits.{bitAt, howMany}
 use Rattle.annex10.specs.Repair.{count, Named, repaired}
 use Rattle.annex10.specs.declared.Repairs.{Repairs}
 use Rattle.annex10.specs.declared.Repairs.the-variants.{None}
 use Rattle.place.specs.declared.Place.{Place}
 use Rattle.place.specs.declared.Slicer.{Slicer}
 use Rattle.place.specs.declared.Slicer.the-variants.{Coherent}
+use Rattle.kernels.specs.Slices.{greaterBy}
 use Rattle.search.specs.declared.Settings.{Settings}
 use Rattle.search.specs.declared.Answer.{Answer}
 use Rattle.search.specs.Kinds.{Kind, placesOf}
 use Rattle.search.specs.Window.{_∈_}
 use Rattle.search.specs.Seen.{bitsAt, seen}
-use Rattle.claims.specs.Bits.{slicerBit}
+use Rattle.claims.specs.Bits.{firstHalf, secondHalf, slicerBit, coinToss}
 use Rattle.claims.specs.Fits.{Fits, cn0With, OnlyRepair}
 use Rattle.claims.specs.Chosen.{Chosen}
 use Rattle.claims.specs.Calls.{Accepted, Numbered}
 use Rattle.claims.specs.Timing.{WellTimed}
+
+-- Bit j of a message was received: it is 1 and the first half was strictly greater, or 0 and the second was.
+abbrev pub Received : List Float → Answer → ℕ → Type 0
+Received samples a j =
+    let first = firstHalf samples (a .place) j in
+    let second = secondHalf samples (a .place) j in
+    ((bitAt (a .message) j ≡ 1) × (greaterBy (a .slicer) first second ≡ true)) ⊎ ((bitAt (a .message) j ≡ 0) × (greaterBy (a .slicer) second first ≡ true))
 
 -- An answer with number 0.
 pub record Returned (kind : Kind) (samples : List Float) (s : Settings) (index : ℕ) (a : Answer) : Type 0 where
@@ -36,6 +44,10 @@ pub record Returned (kind : Kind) (samples : List Float) (s : Settings) (index :
   pub cn0 : a .cn0 ≡ cn0With (seen kind samples) (a .place) (a .slicer) (a .repairs)
   -- In samples: each of its bits is unlike the comparison of two symbols exactly when its position is named.
   pub differs : (j : ℕ) → j < 8 * kind .bytes → (bitAt (a .message) j ≢ slicerBit samples (a .slicer) (a .place) j) ↔ Named j (a .repairs)
+  -- Of these bits so many were a coin toss: neither half was strictly greater. A repair takes none of them away.
+  pub undecided : a .undecided ≡ howMany (coinToss samples (a .slicer) (a .place)) (8 * kind .bytes)
+  -- Where none was, each bit that is not named was received: the half that it says is strictly greater than the other.
+  pub received : a .undecided ≡ 0 → (j : ℕ) → j < 8 * kind .bytes → ¬ Named j (a .repairs) → Received samples a j
   -- 2. No other choice of at most two different positions clears those bits.
   pub only-repair : OnlyRepair (kind .bytes) (bitsAt (kind .bytes) samples (a .slicer) (a .place)) (a .repairs)
   -- 3. When it came.
@@ -50,6 +62,7 @@ pub record Zeros (kind : Kind) (a : Answer) : Type 0 where
   pub cn0 : a .cn0 ≡ zeroF
   pub index : a .index ≡ 0
   pub fraction : a .fraction ≡ zeroF
+  pub undecided : a .undecided ≡ 0
 
 -- Every answer.
 pub record Answered (kind : Kind) (samples : List Float) (s : Settings) (index : ℕ) (a : Answer) : Type 0 where
@@ -71,6 +84,7 @@ pub record Same (a b : Answer) : Type 0 where
   pub cn0 : a .cn0 ≡ b .cn0
   pub index : a .index ≡ b .index
   pub fraction : (eq (a .fraction) (b .fraction) ≡ true) ⊎ ((isNan (a .fraction) ≡ true) × (isNan (b .fraction) ≡ true))
+  pub undecided : a .undecided ≡ b .undecided
 
 -- the settings with another level
 abbrev pub atLevel : ℕ → Settings → Settings

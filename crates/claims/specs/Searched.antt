@@ -53,6 +53,7 @@ pub record Filled (w : Window) (p : Place) (a : Candidate) : Type 0 where
   pub message : a .message ≡ repaired (w .bits (a .slicer) p) (a .repairs)
   pub prompt : a .prompt ≡ w .prompt p (a .message)
   pub cn0 : a .cn0 ≡ cn0With w p (a .slicer) (a .repairs)
+  pub undecided : a .undecided ≡ w .undecided (a .slicer) p
 
 pub record KeepsFirst (kind : Kind) (s : Settings) (w : Window) (p : Place) : Type 0 where
   -- a is the surviving reading exactly when the place holds it

@@ -156,7 +156,7 @@ module _ (n m k : ℕ) (h : m + 8 * n < 144) (l : k < 8 * m) where
 
 startBit-lt : (slicer : Slicer) (s : List Float) (p : ℕ) → startBit slicer s p < 2
 unfolding startBit
-startBit-lt slicer s p = either (ltb (p + 4) 1152) (asBit-lt (greaterBy slicer (sumFrom s p 4) (sumFrom s (p + 4) 4)))
+startBit-lt slicer s p = either (ltb (p + 4) 1152) (asBit-lt (greaterBy slicer (sumFrom s p 4) (sumFrom s (p + 4) 4))) (lit< tt)
 
 pub digits-of : (slicer : Slicer) (s : List Float) → Digits (bitsFrom slicer s)
 unfolding bitsFrom

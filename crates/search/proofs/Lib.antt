@@ -2,3 +2,4 @@ pub mod Passing
 pub mod Scanning
 pub mod Choosing
 pub mod Staging
+pub mod Marks

@@ -22,13 +22,14 @@ use Rattle.streams.proofs.Reading.{message-length}
 use Rattle.lists.specs.Bits.{bitAt, value, packed}
 use Rattle.lists.specs.From.{tabulate}
 use Rattle.lists.proofs.Table.{length-tabulate, getD-tabulate}
-use Rattle.lists.proofs.Bits.{bitAt-lt, value-lt}
+use Rattle.lists.proofs.Bits.{bitAt-lt, value-lt, howMany-le}
 use Rattle.annex10.specs.Flip.{flip}
 use Rattle.annex10.specs.Repair.{Proper, repaired}
 use Rattle.annex10.proofs.Repairing.{length-repaired}
 use Rattle.annex10.specs.declared.Repairs.{Repairs}
 use Rattle.annex10.specs.declared.Repairs.the-variants.{None, One, Two}
 use Rattle.place.specs.declared.Place.{Place}
+use Rattle.place.specs.declared.Slicer.{Slicer}
 use Rattle.place.specs.Step.{sampleStart}
 use Rattle.place.proofs.Within.{Listed, listed-gives}
 use Rattle.place.proofs.All.{member-listed}
@@ -47,7 +48,7 @@ use Rattle.search.specs.declared.Reading.{Reading}
 use Rattle.search.specs.Window.{Window, _∈_}
 use Rattle.search.specs.Choice.{candidate, candidateAt, best}
 use Rattle.search.specs.Kinds.{Kind, long, short, placesOf}
-use Rattle.search.specs.Seen.{stream, bitsAt, windowOf, seen}
+use Rattle.search.specs.Seen.{stream, bitsAt, marksAt, undecidedAt, windowOf, seen}
 use Rattle.search.specs.When.{timingAt, moved, indexOf}
 use Rattle.search.specs.Answers.{orNumber, windowNumber, settingsNumber, indexNumber, refusedAnswer, answerOf, answered, decodeOf}
 use Rattle.search.proofs.Passing.{sound}
@@ -126,6 +127,15 @@ index-stored : (given start : ℕ) (f : Float) → given ≤ 2 ^ 63 → start �
 unfolding indexOf
 index-stored given start f h k = omega (arith, moved-few (timingOf f .moves) (given - 128 + start) (few-moves f))
 
+-- ---- the undecided bits
+
+-- there are no more of them than bits
+undecided-few : (n : ℕ) (samples : List Float) (slicer : Slicer) (p : Place) → undecidedAt n samples slicer p ≤ 8 * n
+unfolding undecidedAt
+undecided-few n samples slicer p =
+    let marks = marksAt n samples slicer p in
+    howMany-le (bitAt marks) (λ j. bitAt-lt marks j refl) (8 * n)
+
 -- ---- the number
 
 -- 0, or a refusal
@@ -194,6 +204,7 @@ module _ (kind : Kind) (small : Small kind) where
               cn0 = ofBits-fits binary32 0;
               index = omega arith;
               fraction = ofBits-fits binary32 0;
+              undecided = omega arith;
             };
         size = length-replicate (kind .bytes) 0;
       }
@@ -218,6 +229,7 @@ module _ (kind : Kind) (small : Small kind) where
               cn0 = cn0-fits _ _;
               index = index-stored index (sampleStart p) _ h (omega (arith, small .last));
               fraction = timing-fits _ _;
+              undecided = omega (arith, undecided-few (kind .bytes) samples (r .slicer) p, small .bytes);
             };
         size = length-repaired bits (r .repairs) ∙ message-length (stream samples (r .slicer) p) (kind .bytes) (p .bit);
       }

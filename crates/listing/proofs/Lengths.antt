@@ -54,6 +54,10 @@ decimal-byte : (n : ℕ) → n < 256 → length (decimal n) ≤ 3
 unfolding decimal
 decimal-byte n h = decimal-few 20 2 n (omega arith)
 
+decimal-word : (n : ℕ) → n < 2 ^ 32 → length (decimal n) ≤ 10
+unfolding decimal
+decimal-word n h = decimal-few 20 9 n (omega arith)
+
 float-long : (x : Float) → length (floatText x) ≡ 8
 unfolding floatText hexWord hexText
 float-long x = refl
@@ -92,10 +96,11 @@ pub none-short : (n : ℕ) → length (noneLine n) ≤ 256
 unfolding noneLine line
 none-short n = simp length-append (omega (arith, decimal-short n))
 
--- window and index have 20 digits at most, each float 8, an address 7, positions 6; of a message each byte has two
-pub found-short : (window : ℕ) (a : Answer) → length (repairsText (a .repairs)) ≤ 9 → length (foundLine window a) ≤ 2 * length (a .message) + 83
+-- window and index have 20 digits at most, each float 8, an address 7, positions 6, the undecided bits 10; of a message each byte has two
+pub found-short : (window : ℕ) (a : Answer) → length (repairsText (a .repairs)) ≤ 9 → a .undecided < 2 ^ 32
+    → length (foundLine window a) ≤ 2 * length (a .message) + 94
 unfolding foundLine line
-found-short window a h =
+found-short window a h w =
     simp length-append
     (omega (
       arith,
@@ -106,6 +111,7 @@ found-short window a h =
       address-short (a .message),
       slicer-long (a .slicer),
       float-long (a .cn0),
+      decimal-word (a .undecided) w,
     ))
 
 -- the line of a message is longer than `none`

@@ -38,6 +38,7 @@ others zero a =
     ∷ repairsText (a .repairs)
     ∷ slicerText (a .slicer)
     ∷ floatText (a .cn0)
+    ∷ decimal (a .undecided)
     ∷ []
 others (suc zero) a = wordNone ∷ []
 others (suc (suc n)) a = decimal (suc (suc n)) ∷ []
@@ -57,7 +58,10 @@ visible zero k a = (
       float-visible (a .fraction),
       (
         avr-visible (a .message),
-        (address-visible (a .message), (repairs-visible (a .repairs), (slicer-visible (a .slicer), (float-visible (a .cn0), tt)))),
+        (
+          address-visible (a .message),
+          (repairs-visible (a .repairs), (slicer-visible (a .slicer), (float-visible (a .cn0), (digits-visible (a .undecided), tt)))),
+        ),
       ),
     ),
   ),
@@ -93,6 +97,7 @@ silent k l a b none e w =
       index = λ z. absurd (none z);
       fraction = λ z. absurd (none z);
       cn0 = λ z. absurd (none z);
+      undecided = λ z. absurd (none z);
     }
 
 module _ (k l : ℕ) (a b : Answer) (K : k < 2 ^ 64) (L : l < 2 ^ 64) (A : Stored a) (B : Stored b) where
@@ -108,6 +113,7 @@ module _ (k l : ℕ) (a b : Answer) (K : k < 2 ^ 64) (L : l < 2 ^ 64) (A : Store
         index = λ _. decimal-same (a .index) (b .index) (A .index) (B .index) (at 1);
         fraction = λ _. float-same (a .fraction) (b .fraction) (A .fraction) (B .fraction) (at 2);
         cn0 = λ _. float-same (a .cn0) (b .cn0) (A .cn0) (B .cn0) (at 7);
+        undecided = λ _. decimal-same (a .undecided) (b .undecided) (omega (arith, A .undecided)) (omega (arith, B .undecided)) (at 8);
       }
   said (suc zero) (suc zero) p q e = silent k l a b (λ z. omega arith) (p ∙ sym q) (λ _. decimal-same k l K L (head-eq-of-cons-eq e))
   said (suc (suc m)) (suc (suc n)) p q e =

@@ -42,6 +42,7 @@ stored a vs p =
       cn0 = passes _ (q .1 .1 .1 .1 .1 .0 .1);
       index = q .1 .1 .1 .1 .1 .1 .0 .1;
       fraction = passes _ (q .1 .1 .1 .1 .1 .1 .1 .0 .1);
+      undecided = q .1 .1 .1 .1 .1 .1 .1 .1 .0 .1;
     }
 
 pub stored-short : (a : ShortAnswer) (vs : List Val) → Is short-answer.the-row a vs → Stored (ofShort a)
@@ -54,4 +55,5 @@ stored-short a vs p =
       cn0 = passes _ (q .1 .1 .1 .1 .1 .0 .1);
       index = q .1 .1 .1 .1 .1 .1 .0 .1;
       fraction = passes _ (q .1 .1 .1 .1 .1 .1 .1 .0 .1);
+      undecided = q .1 .1 .1 .1 .1 .1 .1 .1 .0 .1;
     }

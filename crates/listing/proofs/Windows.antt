@@ -59,7 +59,7 @@ module _ (k : ℕ) (a : Answer) where
   no-message t n z = rw (message-not k a z) (refl, omega arith)
 
   pub one-message : (t : Text) (n : ℕ) {r : Text} → a .number ≡ 0
-      → let l = foundLine k (fields (a .index) (a .fraction) (a .message) (a .repairs) (a .slicer) (a .cn0)) in
+      → let l = foundLine k (fields (a .index) (a .fraction) (a .message) (a .repairs) (a .slicer) (a .cn0) (a .undecided)) in
       r ≡ puts t l → length l ≤ n → (r ≡ puts t (messageLine k a)) × (length (messageLine k a) ≤ n)
   unfolding foundLine
   one-message t n z e h = rw (message-is k a z) (e, h)

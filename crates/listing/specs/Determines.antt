@@ -31,6 +31,7 @@ pub record Stored (a : Answer) : Type 0 where
   pub cn0 : T (fits binary32 (a .cn0))
   pub index : a .index < 2 ^ 64
   pub fraction : T (fits binary32 (a .fraction))
+  pub undecided : a .undecided < 2 ^ 32
 
 -- one of the two kinds that are searched for
 abbrev pub Either : Kind → Type 0
@@ -49,6 +50,7 @@ pub record SameSaid (k l : ℕ) (a b : Answer) : Type 0 where
   pub index : a .number ≡ 0 → a .index ≡ b .index
   pub fraction : a .number ≡ 0 → a .fraction ≡ b .fraction
   pub cn0 : a .number ≡ 0 → a .cn0 ≡ b .cn0
+  pub undecided : a .number ≡ 0 → a .undecided ≡ b .undecided
 
 pub record LineDetermines : Type 0 where
   -- of all answers that are values of their type

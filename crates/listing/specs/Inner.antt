@@ -21,8 +21,8 @@ unfoldable pub puts : Text → List ℕ → Text
 puts t bytes = foldl putOf t bytes
 
 -- an answer with the fields that a line has; of the place it says nothing
-abbrev pub fields : ℕ → Float → List ℕ → Repairs → Slicer → Float → Answer
-fields index fraction message repairs slicer cn0 =
+abbrev pub fields : ℕ → Float → List ℕ → Repairs → Slicer → Float → ℕ → Answer
+fields index fraction message repairs slicer cn0 undecided =
     record {
       number = 0;
       place = nowhere;
@@ -32,4 +32,5 @@ fields index fraction message repairs slicer cn0 =
       cn0 = cn0;
       index = index;
       fraction = fraction;
+      undecided = undecided;
     }

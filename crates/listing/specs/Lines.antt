@@ -28,7 +28,7 @@ refusedLine number = line ((0x72 ∷ 0x65 ∷ 0x66 ∷ 0x75 ∷ 0x73 ∷ 0x65 �
 unfoldable pub noneLine : ℕ → List ℕ
 noneLine window = line (decimal window ∷ (0x6E ∷ 0x6F ∷ 0x6E ∷ 0x65 ∷ []) ∷ [])
 
--- window, sample index, fraction, AVR text, address, repairs, slicer, cn0
+-- window, sample index, fraction, AVR text, address, repairs, slicer, cn0, undecided bits
 unfoldable pub foundLine : ℕ → Answer → List ℕ
 foundLine window a =
     line
@@ -40,6 +40,7 @@ foundLine window a =
     ∷ repairsText (a .repairs)
     ∷ slicerText (a .slicer)
     ∷ floatText (a .cn0)
+    ∷ decimal (a .undecided)
     ∷ [])
 
 -- what one search says of a window: number 0 is a message, 1 is none, any other a refusal

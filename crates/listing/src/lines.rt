@@ -53,11 +53,12 @@ fn put_message(
     repairs: Repairs,
     slicer: Slicer,
     cn0: f32,
+    undecided: u32,
 ) -> Text
     requires { ⌜ 4 ≤ length (now message) ⌝ }
     ensures { λ r.
-        let l = foundLine window (fields index fraction (now (message .entry)) repairs slicer cn0) in
-        ⌜ (r ≡ puts t l) × (length l ≤ 2 * length (now (message .entry)) + 83) ⌝ }
+        let l = foundLine window (fields index fraction (now (message .entry)) repairs slicer cn0 undecided) in
+        ⌜ (r ≡ puts t l) × (length l ≤ 2 * length (now (message .entry)) + 94) ⌝ }
 {
     let t = put(put_decimal(t, window), b' ');
     let t = put(put_decimal(t, index), b' ');
@@ -66,12 +67,13 @@ fn put_message(
     let t = put(put_address(t, message), b' ');
     let t = put(put_repairs(t, repairs), b' ');
     let t = put(put_slicer(t, slicer), b' ');
-    put(put_float(t, cn0), b'\n')
+    let t = put(put_float(t, cn0), b' ');
+    put(put_decimal(t, undecided as u64), b'\n')
 }
 
 // The line of a long message, if there is one.
 fn put_long(t: Text, window: u64, long: Answer) -> Text
-    ensures { λ r. ⌜ (r ≡ puts t (messageLine window long)) × (length (messageLine window long) ≤ 111) ⌝ }
+    ensures { λ r. ⌜ (r ≡ puts t (messageLine window long)) × (length (messageLine window long) ≤ 122) ⌝ }
 {
     if long.number != 0 {
         return t;
@@ -88,12 +90,13 @@ fn put_long(t: Text, window: u64, long: Answer) -> Text
         repairs,
         slicer,
         long.cn0,
+        long.undecided,
     )
 }
 
 // The line of a short one, if there is one.
 fn put_short(t: Text, window: u64, short: ShortAnswer) -> Text
-    ensures { λ r. ⌜ (r ≡ puts t (messageLine window (ofShort short))) × (length (messageLine window (ofShort short)) ≤ 97) ⌝ }
+    ensures { λ r. ⌜ (r ≡ puts t (messageLine window (ofShort short))) × (length (messageLine window (ofShort short)) ≤ 108) ⌝ }
 {
     if short.number != 0 {
         return t;
@@ -110,6 +113,7 @@ fn put_short(t: Text, window: u64, short: ShortAnswer) -> Text
         repairs,
         slicer,
         short.cn0,
+        short.undecided,
     )
 }
 

@@ -199,7 +199,7 @@ module _ (k : Kind) (sums : List Float) (x : Survivor) where
 
   pub answer-timed : (index : ℕ) {b : ℕ} {symbols : List Float} {t : Arrival} → x .number ≡ 0 → b ≡ k .bytes → symbols ≡ symbolsIn sums
       → t ≡ arrivalIn k symbols (x .candidate .place) (take b message) index
-      → (let c = x .candidate in record { number = 0; place = c .place; message = message; repairs = c .repairs; slicer = c .slicer; cn0 = c .cn0; index = t .index; fraction = t .fraction })
+      → (let c = x .candidate in record { number = 0; place = c .place; message = message; repairs = c .repairs; slicer = c .slicer; cn0 = c .cn0; index = t .index; fraction = t .fraction; undecided = c .undecided })
       ≡ answerIn k (symbolsIn sums) index x
   unfolding answerIn
   answer-timed index z e m et = rw (eq-eqb (x .number) 0 z, et, e, m)

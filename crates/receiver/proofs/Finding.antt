@@ -47,6 +47,7 @@ use Rattle.search.specs.Choice.{candidate, dropped, survivor, candidateAt, scan
 use Rattle.search.specs.Window.{Window}
 use Rattle.search.specs.Kinds.{Kind, long, short}
 use Rattle.search.specs.Seen.{row, stream, bitsAt, promptAt, noiseAt, windowOf, seen}
+use Rattle.search.proofs.Marks.{by-symbols}
 use Rattle.receiver.specs.Inner.{Scanned, Ready, heldOf, Finds, foundBy, Streams, Known, seenAt}
 use Rattle.receiver.proofs.EitherKind.{Right}
 
@@ -136,7 +137,7 @@ starts m p h =
 
 -- ---- what is seen at the place is what the window has there
 
-module _ (k : Kind) (samples : List Float) (p : Place) where
+module _ (k : Kind) (right : Right k) (samples : List Float) (p : Place) (h : listed (k .last) p ≡ true) where
   abbrev here : Window
   here = seenAt k samples (row samples (p .phase)) (stream samples Coherent p) (stream samples Noncoherent p)
 
@@ -146,7 +147,7 @@ module _ (k : Kind) (samples : List Float) (p : Place) where
 
   same-candidate : (r : Reading) → candidate here p r ≡ candidate (seen k samples) p r
   unfolding candidate seenAt windowOf bitsAt promptAt noiseAt
-  same-candidate r = rw (same-bits (r .slicer))
+  same-candidate r = rw (same-bits (r .slicer), by-symbols samples p (k .bytes) (k .last) (omega (arith, right .last)) h (r .slicer))
 
   same-distance : here .distance p ≡ seen k samples .distance p
   unfolding seenAt windowOf bitsAt
@@ -203,7 +204,7 @@ module _ (k : Kind) (right : Right k) (samples symbols : List Float) (coherent n
   unfolding row
   lent-read s i z e =
       let r : take i (drop (576 * p .phase) symbols) ≡ row samples (p .phase) = rw (z, ready .sums) in
-      e ∙ rw (r, first-is, second-is) (ap (heldOf k) (seen-there k samples p s))
+      e ∙ rw (r, first-is, second-is) (ap (heldOf k) (seen-there k right samples p h s))
 
   pub lent-streams : Streams k first second (p .bit)
   unfolding laneBytes packed

@@ -1,6 +1,7 @@
 -- What is read at a place, from the parts that are lent for it.
 --     part-whole             the symbols of a place are all there
 --     power-in, around-in, both-is      the powers of a message
+--     undecided-is           how many of its bits were undecided
 --     message-is             the named slicer's bits, repaired
 -- Assumes nothing.
 use mathlib.Core.Path.{_≡_, sym, ap, _∙_}
@@ -12,6 +13,7 @@ use borrow.Author.Tests.{eq-eqb, le-leb}
 use lib.ListN.{length, take, drop, length-drop}
 use lib.Seq.{length-take-le}
 use lib.Ieee.{Float}
+use Rattle.lists.specs.Told.{Told, done}
 use Rattle.annex10.specs.declared.Repairs.{Repairs}
 use Rattle.annex10.specs.Repair.{inside, repaired}
 use Rattle.mode_s.specs.Corrected.{corrected}
@@ -29,6 +31,8 @@ use Rattle.kernels.specs.Powers.{powerOf, noiseOf, powerTold, powerAt}
 use Rattle.kernels.specs.declared.around.Around.{Around}
 use Rattle.kernels.specs.Both.{powersAt}
 use Rattle.kernels.specs.Around.{aroundAt}
+use Rattle.kernels.specs.Undecided.{undecidedIn, undecidedOf}
+use Rattle.kernels.proofs.Counting.{undecided-done}
 use Rattle.kernels.proofs.Measuring.{power-done, powers-done, around-done}
 use Rattle.kernels.proofs.Told.{powerUntold, power-back}
 use Rattle.streams.specs.declared.message.Message.{Message}
@@ -84,6 +88,12 @@ module _ (k : Kind) (r : Right k) where
       let x = symbols-long n row p (omega (arith, r .high)) (row-taken 576 row p h w) in
       let y = samples-long n samples p (omega (arith, r .high)) (row-taken 2310 samples p l w) in
       er ∙ rw (ea, eb) (powers-done n message (r .whole) m _ _ x y)
+
+  pub undecided-is : (row : List Float) (p : Place) (slicer : Slicer) {part : List Float} {a : Told ℕ} → length row ≡ 576 → within n p ≡ true
+      → part ≡ symbolsFor n row p → a ≡ undecidedOf part slicer → a ≡ done (undecidedIn slicer (symbolsFor n row p) (8 * n))
+  undecided-is row p slicer h w ea er =
+      let x = symbols-long n row p (omega (arith, r .high)) (row-taken 576 row p h w) in
+      er ∙ rw ea (undecided-done slicer (symbolsFor n row p) n (r .whole) x)
 
   streams-taken : (c d : List ℕ) (bit : ℕ) → Streams k c d bit → streamsRefusal n c d bit ≡ 0
   unfolding streamsRefusal

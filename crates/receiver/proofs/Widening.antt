@@ -95,7 +95,7 @@ refused-short n = refl
 -- with its time, and the message in its room
 timed : (k : Kind) (samples : List Float) (index : ℕ) (c : Candidate) → length (c .message) ≡ k .bytes
     → answerIn k (symbolsOf samples) index (survivorOf long (some (wide k c)))
-    ≡ (let a = answerOf k samples index c in record { number = 0; place = a .place; message = padded k (c .message); repairs = a .repairs; slicer = a .slicer; cn0 = a .cn0; index = a .index; fraction = a .fraction })
+    ≡ (let a = answerOf k samples index c in record { number = 0; place = a .place; message = padded k (c .message); repairs = a .repairs; slicer = a .slicer; cn0 = a .cn0; index = a .index; fraction = a .fraction; undecided = a .undecided })
 unfolding answerIn answerOf arrivalIn
 timed k samples index c e = rw (unpadded k (c .message) e, timing-seen k samples (c .message) (sampleStart (c .place)))
 

@@ -26,6 +26,7 @@ use Rattle.math.specs.Parabola.{parabola}
 use Rattle.kernels.specs.declared.around.Around.{Around}
 use Rattle.kernels.specs.Symbols.{symbolsOf}
 use Rattle.kernels.specs.Powers.{powerOf, noiseOf}
+use Rattle.kernels.specs.Undecided.{undecidedIn}
 use Rattle.streams.specs.Streams.{messageAt}
 use Rattle.streams.specs.Distances.{differing}
 use Rattle.annex10.specs.Codes.{absent}
@@ -74,6 +75,7 @@ wide k c =
       message = padded k (c .message);
       prompt = c .prompt;
       cn0 = c .cn0;
+      undecided = c .undecided;
     }
 
 -- what is found, with such a message
@@ -96,6 +98,7 @@ cutSurvivor x =
             message = take 7 (c .message);
             prompt = c .prompt;
             cn0 = c .cn0;
+            undecided = c .undecided;
           };
     }
 
@@ -110,6 +113,7 @@ cutAnswer a =
       cn0 = a .cn0;
       index = a .index;
       fraction = a .fraction;
+      undecided = a .undecided;
     }
 
 -- ---- timing
@@ -139,7 +143,7 @@ timedBy x a =
 
 -- all that timing looks at
 unfoldable pub seenIn : Kind → List Float → Window
-seenIn k symbols = record { bits = λ slicer p. []; distance = λ p. 0; prompt = powerIn k symbols; cn0 = powerIn k symbols }
+seenIn k symbols = record { bits = λ slicer p. []; undecided = λ slicer p. 0; distance = λ p. 0; prompt = powerIn k symbols; cn0 = powerIn k symbols }
 
 -- when a message came, from the symbols
 unfoldable pub arrivalIn : Kind → List Float → Place → List ℕ → ℕ → Arrival
@@ -167,6 +171,7 @@ answerIn k symbols index x =
       cn0 = c .cn0;
       index = t .index;
       fraction = t .fraction;
+      undecided = c .undecided;
     })
     (refusedAnswer long 1)
 
@@ -243,6 +248,7 @@ seenAt k samples row coherent noncoherent =
     let n = k .bytes in
     record {
       bits = λ slicer p. messageAt (chosen slicer coherent noncoherent) n (p .bit);
+      undecided = λ slicer p. undecidedIn slicer (symbolsFor n row p) (8 * n);
       distance = λ p. differing (messageAt coherent n (p .bit)) (messageAt noncoherent n (p .bit)) (8 * n);
       prompt = λ p message. powerOf n (symbolsFor n row p) message;
       cn0 = λ p message. cn0Of (powerOf n (symbolsFor n row p) message) (noiseOf n (samplesFor n samples p) message);

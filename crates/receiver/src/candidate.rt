@@ -4,6 +4,7 @@ use crate::kinds::level_of;
 use crate::message::message_at;
 use crate::powers::both_powers;
 use crate::six::try_six;
+use crate::undecided::undecided_at;
 use annex10::Found;
 use annex10::Repairs;
 use choice::best::repairs_of;
@@ -52,6 +53,7 @@ pub fn unread(number: u32) -> Survivor
             message: [0u8; 14],
             prompt: 0.0,
             cn0: 0.0,
+            undecided: 0,
         },
     }
 }
@@ -73,7 +75,7 @@ fn distance_at(coherent: &[u8], noncoherent: &[u8], bit: usize) -> u32
     }
 }
 
-// A reading at a place, with its message, power and cn0.
+// A reading at a place, with its message, power and cn0, and how many of the bits that were sliced for it were undecided.
 fn candidate_of<'a>(
     kind: MessageKind,
     samples: &[f32],
@@ -94,6 +96,7 @@ fn candidate_of<'a>(
     let powers = both_powers(kind, samples, row, place, &message[..bytes]);
     let prompt = powers.prompt;
     let cn0 = estimate_cn0(prompt, powers.noise);
+    let undecided = undecided_at(kind, row, place, slicer);
     Candidate {
         place,
         trial: reading.trial,
@@ -102,6 +105,7 @@ fn candidate_of<'a>(
         message,
         prompt,
         cn0,
+        undecided,
     }
 }
 

@@ -59,6 +59,7 @@ fn refused(number: u32) -> Answer
         cn0: 0.0,
         index: 0,
         fraction: 0.0,
+        undecided: 0,
     }
 }
 
@@ -201,6 +202,7 @@ fn answer_of(kind: MessageKind, sums: &[f32], read: Survivor, index: u64) -> Ans
         cn0: c.cn0,
         index: timed.index,
         fraction: timed.fraction,
+        undecided: c.undecided,
     }
 }
 

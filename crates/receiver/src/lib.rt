@@ -12,4 +12,5 @@ mod six;
 mod subsample;
 mod trial;
 pub mod trials;
+mod undecided;
 mod window;

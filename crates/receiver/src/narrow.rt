@@ -38,6 +38,7 @@ pub fn narrow_survivor(x: Survivor) -> ShortSurvivor
             message: narrow(message),
             prompt: c.prompt,
             cn0: c.cn0,
+            undecided: c.undecided,
         },
     }
 }
@@ -58,5 +59,6 @@ pub fn narrow_answer(a: Answer) -> ShortAnswer
         cn0: a.cn0,
         index: a.index,
         fraction: a.fraction,
+        undecided: a.undecided,
     }
 }

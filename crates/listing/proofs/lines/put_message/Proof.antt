@@ -1,4 +1,4 @@
--- `listing::lines::put_message` meets its contract: eight fields, one after the other.
+-- `listing::lines::put_message` meets its contract: nine fields, one after the other.
 -- Assumes nothing.
 use denote.Ref.{now}
 use Rattle.listing.specs.Lines.{foundLine}
@@ -57,26 +57,36 @@ put-float-requires-2 c κs = search needs
 put-requires-8 : tie.Need-put-requires-8
 put-requires-8 c κs = search needs
 
+put-decimal-requires-3 : tie.Need-put-decimal-requires-3
+put-decimal-requires-3 c κs = search needs
+
+put-requires-9 : tie.Need-put-requires-9
+put-requires-9 c κs = search needs
+
 returns : tie.Need-returns
 unfolding foundLine
 returns c =
-    let slicer = c .before .before .before in
+    let cn0 = c .before .before .before in
+    let slicer = cn0 .before .before in
     let repairs = slicer .before .before in
     let address = repairs .before .before in
     let avr = address .before .before in
     let fraction = avr .before .before in
     let index = fraction .before .before in
     let window = index .before .before in
-    let a = window .before .before .args in (
+    let start = window .before .before in
+    let a = start .args in (
       field-more _ _ _ _ (window .put-decimal .ensures) (index .before .put .ensures)
           (field-more _ _ _ _ (index .put-decimal2 .ensures) (fraction .before .put2 .ensures)
           (field-more _ _ _ _ (fraction .put-float .ensures) (avr .before .put3 .ensures)
           (field-more _ _ _ _ (avr .put-avr .ensures) (address .before .put4 .ensures)
           (field-more _ _ _ _ (address .put-address .ensures) (repairs .before .put5 .ensures)
           (field-more _ _ _ _ (repairs .put-repairs .ensures .0) (slicer .before .put6 .ensures)
-          (field-more _ _ _ _ (slicer .put-slicer .ensures) (c .before .before .put7 .ensures)
-          (field-last _ _ (c .before .put-float2 .ensures) (c .put8 .ensures)))))))),
-      found-short (a .window) (fields (a .index) (a .fraction) (now (a .message)) (a .repairs) (a .slicer) (a .cn0)) (repairs .put-repairs .ensures .1),
+          (field-more _ _ _ _ (slicer .put-slicer .ensures) (cn0 .before .put7 .ensures)
+          (field-more _ _ _ _ (cn0 .put-float2 .ensures) (c .before .before .put8 .ensures)
+          (field-last _ _ (c .before .put-decimal3 .ensures) (c .put9 .ensures))))))))),
+      found-short (a .window) (fields (a .index) (a .fraction) (now (a .message)) (a .repairs) (a .slicer) (a .cn0) (a .undecided)) (repairs .put-repairs .ensures .1)
+          (start .fits .undecided .fits),
     )
 
 pub put-message-spec : {M : Type 1} → statement M
@@ -99,4 +109,6 @@ put-message-spec =
     put-requires-7
     put-float-requires-2
     put-requires-8
+    put-decimal-requires-3
+    put-requires-9
     returns)

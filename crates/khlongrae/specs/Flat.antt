@@ -37,14 +37,14 @@ abbrev pub slicerCode : Slicer → ℕ
 slicerCode Coherent = 0
 slicerCode Noncoherent = 1
 
--- index, bit offset, clock phase, symbol offset, how many repairs, the two positions, the slicer
-abbrev pub rowOf : ℕ → Place → Repairs → Slicer → List ℕ
-rowOf index p ρ slicer =
+-- index, bit offset, clock phase, symbol offset, how many repairs, the two positions, the slicer, how many bits were undecided
+abbrev pub rowOf : ℕ → Place → Repairs → Slicer → ℕ → List ℕ
+rowOf index p ρ slicer undecided =
     index ∷ p .bit ∷ p .phase ∷ p .symbol
-    ∷ count ρ ∷ firstOf ρ ∷ secondOf ρ ∷ slicerCode slicer ∷ []
+    ∷ count ρ ∷ firstOf ρ ∷ secondOf ρ ∷ slicerCode slicer ∷ undecided ∷ []
 
 abbrev pub wordsOf : Answer → List ℕ
-wordsOf a = rowOf (a .index) (a .place) (a .repairs) (a .slicer)
+wordsOf a = rowOf (a .index) (a .place) (a .repairs) (a .slicer) (a .undecided)
 
 -- cn0 and the fraction
 abbrev pub numbersOf : Answer → List Float
@@ -73,10 +73,10 @@ written a old = filled (a .number) (a .message, wordsOf a, numbersOf a) old
 unfoldable pub writtenOr : ℕ → Answer → Lent → Written
 writtenOr n a old = cond (eqb n 0) (written a old) (holding n old)
 
--- a window has 2,310 numbers, else 2; the memory has so many bytes, 8 whole numbers and 2 floats, else 3
+-- a window has 2,310 numbers, else 2; the memory has so many bytes, 9 whole numbers and 2 floats, else 3
 unfoldable pub lentNumber : ℕ → List Float → Lent → ℕ
 lentNumber bytes samples (message, words, numbers) =
-    cond (eqb (length samples) 2310) (cond (eqb (length message) bytes && (eqb (length words) 8 && eqb (length numbers) 2)) 0 3) 2
+    cond (eqb (length samples) 2310) (cond (eqb (length message) bytes && (eqb (length words) 9 && eqb (length numbers) 2)) 0 3) 2
 
 -- THE DECODE INTO LENT MEMORY
 unfoldable pub decodeInto : Kind → List Float → Settings → ℕ → Lent → Written

@@ -11,11 +11,11 @@ pub fn put_bytes(from: &[u8], to: &mut [u8])
     }
 }
 
-pub fn put_words(from: [u64; 8], to: &mut [u64])
-    requires { ⌜ length (now to) ≡ 8 ⌝ }
+pub fn put_words(from: [u64; 9], to: &mut [u64])
+    requires { ⌜ length (now to) ≡ 9 ⌝ }
     ensures { λ _. ⌜ now (to .exit) ≡ from ⌝ }
 {
-    for i in 0..8 {
+    for i in 0..9 {
         to[i] = from[i];
     }
 }

@@ -35,9 +35,15 @@ fn code_of(slicer: Slicer) -> u64
     }
 }
 
-// Index, bit offset, clock phase, symbol offset, how many repairs, the two positions, the slicer.
-pub fn words_of(index: u64, place: Place, repairs: Repairs, slicer: Slicer) -> [u64; 8]
-    ensures { λ r. ⌜ r ≡ rowOf index place repairs slicer ⌝ }
+// Index, bit offset, clock phase, symbol offset, how many repairs, the two positions, the slicer, how many bits were undecided.
+pub fn words_of(
+    index: u64,
+    place: Place,
+    repairs: Repairs,
+    slicer: Slicer,
+    undecided: u32,
+) -> [u64; 9]
+    ensures { λ r. ⌜ r ≡ rowOf index place repairs slicer undecided ⌝ }
 {
     [
         index,
@@ -48,5 +54,6 @@ pub fn words_of(index: u64, place: Place, repairs: Repairs, slicer: Slicer) -> [
         first_of(repairs),
         second_of(repairs),
         code_of(slicer),
+        undecided as u64,
     ]
 }

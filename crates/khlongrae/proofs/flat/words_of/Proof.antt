@@ -6,8 +6,8 @@ use Rattle.khlongrae.proofs.flat.words_of.Tie as tie
 repairs-of-requires : tie.Need-repairs-of-requires
 repairs-of-requires c κs = search needs
 
-cast-t9 : tie.Need-cast-t9
-cast-t9 c = search needs
+cast-t10 : tie.Need-cast-t10
+cast-t10 c = search needs
 
 first-of-requires : tie.Need-first-of-requires
 first-of-requires c κs = search needs
@@ -24,4 +24,4 @@ returns c = rw (c .code-of .ensures, c .before .second-of .ensures, c .before .b
 pub words-of-spec : {M : Type 1} → statement M
 words-of-spec =
     tie.close
-    (tie.spec repairs-of-requires cast-t9 first-of-requires second-of-requires code-of-requires returns)
+    (tie.spec repairs-of-requires cast-t10 first-of-requires second-of-requires code-of-requires returns)

@@ -39,11 +39,14 @@ static void transmit(const uint8_t *message, int bytes, int from) {
     send(message, bytes, from, REAL, 1.0f);
 }
 
+/* takes the samples of n bits away, from bit j of a message on, and the sample before them: the message may be read one sample early */
+static void blank(int from, int j, int n) { memset(&samples[2 * (from + 8 * j - 1)], 0, 2 * (size_t)(8 * n + 1) * sizeof samples[0]); }
+
 /* the memory that a decode is lent, at least one element longer than it may be */
 struct lent {
-    uint8_t message[15];
-    uint64_t words[9];
-    float floats[3];
+    uint8_t message[KHLONGRAE_MESSAGE + 1];
+    uint64_t words[KHLONGRAE_WORDS + 1];
+    float floats[KHLONGRAE_FLOATS + 1];
 };
 static struct lent pattern, lent, short_lent;
 
@@ -108,21 +111,23 @@ static int both_are(struct khlongrae_both_answer answer, uint32_t number, uint32
     } while (0)
 
 static void decodes(void) {
-    static const uint64_t found[8] = {128, 15, 3, 1, 0, 0, 0, KHLONGRAE_COHERENT};
-    static const uint64_t repaired[8] = {128, 16, 0, 0, 2, 40, 41, KHLONGRAE_COHERENT};
+    static const uint64_t found[9] = {128, 15, 3, 1, 0, 0, 0, KHLONGRAE_COHERENT, 0};
+    static const uint64_t repaired[9] = {128, 16, 0, 0, 2, 40, 41, KHLONGRAE_COHERENT, 0};
     uint8_t damaged[14];
 
     transmit(WORKED, 14, 128);
     CHECK(decode(GOOD) == KHLONGRAE_DONE);
     CHECK(memcmp(lent.message, WORKED, 14) == 0 && lent.message[14] == 0xA5);
-    CHECK(memcmp(lent.words, found, sizeof found) == 0 && lent.words[8] == pattern.words[8]);
+    CHECK(memcmp(lent.words, found, sizeof found) == 0 && lent.words[9] == pattern.words[9]);
     CHECK(isinf(lent.floats[KHLONGRAE_FLOAT_CN0]) && lent.floats[KHLONGRAE_FLOAT_FRACTION] == -0.5f);
 
     REFUSED(KHLONGRAE_INPUT_LENGTH, c.samples = KHLONGRAE_WINDOW - 1);
     REFUSED(KHLONGRAE_INPUT_LENGTH, c.samples = 0);
     NO_ROOM(message = -1);
     NO_ROOM(message = 1);
+    NO_ROOM(words = -1); /* the eight of interface 1 */
     NO_ROOM(words = 1);
+    NO_ROOM(floats = -1);
     NO_ROOM(floats = 1);
     REFUSED(KHLONGRAE_LEVEL, c.level = 3);
     REFUSED(KHLONGRAE_THRESHOLD, c.threshold = NAN);
@@ -155,12 +160,12 @@ static uint32_t short_with(uint8_t fourth, uint8_t last, struct call c) {
 }
 
 static void short_decodes(void) {
-    static const uint64_t found[8] = {500, 62, 0, 1, 0, 0, 0, KHLONGRAE_COHERENT};
+    static const uint64_t found[9] = {500, 62, 0, 1, 0, 0, 0, KHLONGRAE_COHERENT, 0};
     struct call c = GOOD;
 
     CHECK(short_with(0, 0, GOOD) == KHLONGRAE_DONE);
     CHECK(memcmp(short_lent.message, SQUITTER, 7) == 0 && short_lent.message[7] == 0xA5);
-    CHECK(memcmp(short_lent.words, found, sizeof found) == 0 && short_lent.words[8] == pattern.words[8]);
+    CHECK(memcmp(short_lent.words, found, sizeof found) == 0 && short_lent.words[9] == pattern.words[9]);
     CHECK(isinf(short_lent.floats[KHLONGRAE_FLOAT_CN0]) && short_lent.floats[KHLONGRAE_FLOAT_FRACTION] == -0.5f);
     transmit(SQUITTER, 7, 699);
     CHECK(decode_short(GOOD) == KHLONGRAE_DONE && short_lent.words[KHLONGRAE_WORD_BIT] == 87);
@@ -202,6 +207,67 @@ static void both_decodes(void) {
     CHECK(lent.words[KHLONGRAE_WORD_SLICER] == KHLONGRAE_COHERENT && short_lent.words[KHLONGRAE_WORD_SLICER] == KHLONGRAE_NONCOHERENT);
     CHECK(decode(GOOD) == KHLONGRAE_DONE && same(&lent, &long_one));
     CHECK(decode_short(GOOD) == KHLONGRAE_DONE && same(&short_lent, &short_one));
+}
+
+/* the long decode finds the worked message by this slicer, with this one bit turned over (none: -1) and so many undecided */
+static int worked_is(uint64_t slicer, int position, uint64_t undecided) {
+    return decode(GOOD) == KHLONGRAE_DONE && memcmp(lent.message, WORKED, 14) == 0 && lent.words[KHLONGRAE_WORD_SLICER] == slicer &&
+           lent.words[KHLONGRAE_WORD_REPAIRS] == (uint64_t)(position >= 0) &&
+           lent.words[KHLONGRAE_WORD_FIRST] == (uint64_t)(position >= 0 ? position : 0) &&
+           lent.words[KHLONGRAE_WORD_UNDECIDED] == undecided;
+}
+
+/* the short decode finds the squitter so */
+static int squitter_is(uint64_t slicer, int position, uint64_t undecided) {
+    return decode_short(GOOD) == KHLONGRAE_DONE && memcmp(short_lent.message, SQUITTER, 7) == 0 &&
+           short_lent.words[KHLONGRAE_WORD_SLICER] == slicer && short_lent.words[KHLONGRAE_WORD_REPAIRS] == (uint64_t)(position >= 0) &&
+           short_lent.words[KHLONGRAE_WORD_FIRST] == (uint64_t)(position >= 0 ? position : 0) &&
+           short_lent.words[KHLONGRAE_WORD_UNDECIDED] == undecided;
+}
+
+/* a bit without its samples is read as 0 and counted: where a 0 was sent that is all, and where a 1 was sent it is repaired, and counted
+ * all the same */
+static void undecided(void) {
+    for (int n = 0; n <= 80; n += 8) {
+        transmit(WORKED, 14, 128);
+        blank(128, 32, n);
+        CHECK(worked_is(KHLONGRAE_COHERENT, -1, (uint64_t)n));
+        blank(128, 4, 1);
+        CHECK(worked_is(KHLONGRAE_COHERENT, 4, (uint64_t)n + 1));
+    }
+    for (int n = 0; n <= 6; n++) {
+        transmit(SQUITTER, 7, 500);
+        blank(500, 18, n);
+        CHECK(squitter_is(KHLONGRAE_COHERENT, -1, (uint64_t)n));
+        blank(500, 9, 1);
+        CHECK(squitter_is(KHLONGRAE_COHERENT, 9, (uint64_t)n + 1));
+    }
+
+    /* by what the slicer that is named compares: there is nothing in the real part, and the norm decides all but the blanked bits */
+    silence();
+    send(WORKED, 14, 128, IMAGINARY, 1.0f);
+    CHECK(worked_is(KHLONGRAE_NONCOHERENT, -1, 0));
+    blank(128, 50, 3);
+    CHECK(worked_is(KHLONGRAE_NONCOHERENT, -1, 3));
+    silence();
+    send(SQUITTER, 7, 500, IMAGINARY, 1.0f);
+    CHECK(squitter_is(KHLONGRAE_NONCOHERENT, -1, 0));
+    blank(500, 19, 2);
+    CHECK(squitter_is(KHLONGRAE_NONCOHERENT, -1, 2));
+
+    /* what is no number is greater than nothing */
+    transmit(WORKED, 14, 128);
+    samples[2 * (128 + 8 * 60 + 5)] = NAN;
+    CHECK(worked_is(KHLONGRAE_COHERENT, -1, 1) && isnan(lent.floats[KHLONGRAE_FLOAT_CN0]));
+
+    /* each of both counts its own: two bits are blanked in either message, and five more behind the short one */
+    transmit(WORKED, 14, 128);
+    send(SQUITTER, 7, 504, IMAGINARY, 4.0f);
+    blank(504, 19, 2);
+    blank(128, 104, 5);
+    CHECK(both_are(decode_both(GOOD, GOOD), KHLONGRAE_DONE, KHLONGRAE_DONE));
+    CHECK(lent.words[KHLONGRAE_WORD_UNDECIDED] == 7 && short_lent.words[KHLONGRAE_WORD_UNDECIDED] == 2);
+    CHECK(worked_is(KHLONGRAE_COHERENT, -1, 7) && squitter_is(KHLONGRAE_NONCOHERENT, -1, 2));
 }
 
 /* what the header says of another rounding: the call ends, its floats have other bits, and the rounding stays as it was set */
@@ -328,6 +394,7 @@ int main(void) {
     decodes();
     short_decodes();
     both_decodes();
+    undecided();
     environments();
     messages();
     headers();

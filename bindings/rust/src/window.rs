@@ -79,14 +79,18 @@ pub struct Answer<const N: usize = MESSAGE> {
     pub fraction: f32,
     /// How far the signal stood above the noise, in dB Hz; infinite where there was no noise.
     pub cn0: f32,
+    /// How many of the bits were undecided: neither half of the bit was strictly greater than the other by what the slicer compares, so
+    /// they were equal or one was no number. Such a bit is read as 0, but nothing was received that tells 0 from 1. Bits are counted as
+    /// they were read: a repaired one may be among them. 0 here and no repairs mean that every bit was received.
+    pub undecided: u32,
 }
 
 /// What a decode found of a short message.
 pub type ShortAnswer = Answer<SHORT_MESSAGE>;
 
 impl<const N: usize> Answer<N> {
-    /// The bits as the slicer read them: the message with its repairs undone. No decode answers a position that lies behind the message;
-    /// one that a caller put there is passed over.
+    /// The bits as the slicer read them, an undecided one as 0: the message with its repairs undone. No decode answers a position that
+    /// lies behind the message; one that a caller put there is passed over.
     #[must_use]
     pub fn received(&self) -> [u8; N] {
         let mut bytes = self.message;
@@ -135,7 +139,8 @@ impl<const N: usize> Lent<N> {
 
     /// What is written there, if something is.
     fn answer(&self, written: bool) -> Option<Answer<N>> {
-        // All but the index are small: it is proved that the place is one of the 248 or 696 and that a position lies in the message.
+        // All but the index are small: it is proved that the place is one of the 248 or 696, that a position lies in the message, and
+        // that what is counted are bits of the message.
         let small = |word: usize| self.words[word] as u32;
         written.then(|| Answer {
             message: self.message,
@@ -149,6 +154,7 @@ impl<const N: usize> Lent<N> {
             index: self.words[raw::WORD_INDEX],
             fraction: self.floats[raw::FLOAT_FRACTION],
             cn0: self.floats[raw::FLOAT_CN0],
+            undecided: small(raw::WORD_UNDECIDED),
         })
     }
 }

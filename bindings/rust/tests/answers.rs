@@ -11,6 +11,7 @@ const FOUND: Answer = Answer {
     index: 128,
     fraction: -0.5,
     cn0: f32::INFINITY,
+    undecided: 0,
 };
 
 const SQUITTER: [u8; SHORT_MESSAGE] = [0x5D, 0x48, 0x40, 0xD6, 0xF8, 0x74, 0x0F];
@@ -22,6 +23,7 @@ const SHORT_FOUND: ShortAnswer = Answer {
     index: 500,
     fraction: -0.5,
     cn0: f32::INFINITY,
+    undecided: 0,
 };
 
 /// Adds a pulse in the first half of each bit that is 1, in the second half of each that is 0, from a sample on, in the real part (0) or
@@ -40,6 +42,11 @@ fn window(message: &[u8], from: usize) -> [f32; WINDOW] {
     let mut samples = [0.0; WINDOW];
     send(&mut samples, message, from, 0, 1.0);
     samples
+}
+
+/// Takes the samples of n bits away, from bit j of a message on, and the sample before them: the message may be read one sample early.
+fn blank(samples: &mut [f32; WINDOW], from: usize, j: usize, n: usize) {
+    samples[2 * (from + 8 * j - 1)..2 * (from + 8 * (j + n))].fill(0.0);
 }
 
 #[test]
@@ -148,6 +155,52 @@ fn both_kinds_are_found() {
     assert_eq!((short.message, short.slicer), (SQUITTER, Slicer::Noncoherent));
 }
 
+/// The message, and what is told of how its bits were read.
+fn read<const N: usize>(found: Option<Answer<N>>) -> ([u8; N], Slicer, Repairs, u32) {
+    let Answer { message, slicer, repairs, undecided, .. } = found.unwrap();
+    (message, slicer, repairs, undecided)
+}
+
+/// A bit without its samples is read as 0 and counted: where a 0 was sent that is all, and where a 1 was sent it is repaired, and
+/// counted all the same.
+#[test]
+fn undecided_bits_are_counted() {
+    let long = |samples: &[f32]| read(decode(samples, SETTINGS, 128).unwrap());
+    let short = |samples: &[f32]| read(decode_short(samples, SETTINGS, 128).unwrap());
+    for n in (0..=80).step_by(8) {
+        let mut samples = window(&WORKED, 128);
+        blank(&mut samples, 128, 32, n);
+        assert_eq!(long(&samples), (WORKED, Slicer::Coherent, Repairs::None, n as u32));
+        blank(&mut samples, 128, 4, 1);
+        assert_eq!(long(&samples), (WORKED, Slicer::Coherent, Repairs::One(4), n as u32 + 1));
+    }
+    for n in 0..=6 {
+        let mut samples = window(&SQUITTER, 500);
+        blank(&mut samples, 500, 18, n);
+        assert_eq!(short(&samples), (SQUITTER, Slicer::Coherent, Repairs::None, n as u32));
+        blank(&mut samples, 500, 9, 1);
+        assert_eq!(short(&samples), (SQUITTER, Slicer::Coherent, Repairs::One(9), n as u32 + 1));
+    }
+    // what is no number is greater than nothing
+    let mut samples = window(&WORKED, 128);
+    samples[2 * (128 + 8 * 60 + 5)] = f32::NAN;
+    assert_eq!(long(&samples), (WORKED, Slicer::Coherent, Repairs::None, 1));
+}
+
+/// By what the slicer that is named compares, and for each of both kinds by itself: two bits are blanked in either message, and five more
+/// behind the short one. The real part has the long message alone.
+#[test]
+fn undecided_bits_are_those_of_the_slicer() {
+    let mut samples = window(&WORKED, 128);
+    send(&mut samples, &SQUITTER, 504, 1, 4.0);
+    blank(&mut samples, 504, 19, 2);
+    blank(&mut samples, 128, 104, 5);
+    let BothAnswers { long, short } = decode_both(&samples, SETTINGS, 128).unwrap();
+    assert_eq!((long, short), (decode(&samples, SETTINGS, 128).unwrap(), decode_short(&samples, SETTINGS, 128).unwrap()));
+    assert_eq!(read(long), (WORKED, Slicer::Coherent, Repairs::None, 7));
+    assert_eq!(read(short), (SQUITTER, Slicer::Noncoherent, Repairs::None, 2));
+}
+
 #[test]
 fn silence_is_an_answer() {
     assert_eq!(found_after(&[40, 41], Settings { level: 1, ..SETTINGS }), None);
@@ -158,13 +211,13 @@ fn silence_is_an_answer() {
     assert_eq!(decode_into(&[0.0; WINDOW], SETTINGS, 128, &mut lent.0, &mut lent.1, &mut lent.2), Ok(false));
     assert_eq!(lent, kept);
     assert_eq!(decode_into(&window(&WORKED, 128), SETTINGS, 128, &mut lent.0, &mut lent.1, &mut lent.2), Ok(true));
-    assert_eq!(lent, (WORKED, [128, 15, 3, 1, 0, 0, 0, 0], [f32::INFINITY, -0.5]));
+    assert_eq!(lent, (WORKED, [128, 15, 3, 1, 0, 0, 0, 0, 0], [f32::INFINITY, -0.5]));
     let mut lent = ([0xA5; SHORT_MESSAGE], [0xA5A5; WORDS], [1.5; FLOATS]);
     let kept = lent;
     assert_eq!(decode_short_into(&[0.0; WINDOW], SETTINGS, 128, &mut lent.0, &mut lent.1, &mut lent.2), Ok(false));
     assert_eq!(lent, kept);
     assert_eq!(decode_short_into(&window(&SQUITTER, 500), SETTINGS, 128, &mut lent.0, &mut lent.1, &mut lent.2), Ok(true));
-    assert_eq!(lent, (SQUITTER, [500, 62, 0, 1, 0, 0, 0, 0], [f32::INFINITY, -0.5]));
+    assert_eq!(lent, (SQUITTER, [500, 62, 0, 1, 0, 0, 0, 0, 0], [f32::INFINITY, -0.5]));
 }
 
 #[test]
@@ -248,7 +301,7 @@ fn refused_decodes_leave_lent_memory_as_it_was() {
     let right = [0, 0, 0];
     refused(Refusal::InputLength, &samples[1..], SETTINGS, 128, right);
     refused(Refusal::InputLength, &[], SETTINGS, 128, right);
-    for wrong in [[-1, 0, 0], [1, 0, 0], [0, -1, 0], [0, 1, 0], [0, 0, -1], [0, 0, 1], [-7, -8, -2]] {
+    for wrong in [[-1, 0, 0], [1, 0, 0], [0, -1, 0], [0, 1, 0], [0, 0, -1], [0, 0, 1], [-7, -9, -2]] {
         refused(Refusal::OutputLength, &samples, SETTINGS, 128, wrong);
     }
     refused(Refusal::Level, &samples, Settings { level: 3, ..SETTINGS }, 128, right);
@@ -262,8 +315,8 @@ fn refused_decodes_leave_lent_memory_as_it_was() {
 fn the_lowest_number_is_told() {
     let samples = window(&WORKED, 128);
     let bad = Settings { level: 3, threshold: f32::NAN, ..SETTINGS };
-    refused(Refusal::InputLength, &samples[1..], bad, 0, [-7, -8, -2]);
-    refused(Refusal::OutputLength, &samples, bad, 0, [-7, -8, -2]);
+    refused(Refusal::InputLength, &samples[1..], bad, 0, [-7, -9, -2]);
+    refused(Refusal::OutputLength, &samples, bad, 0, [-7, -9, -2]);
     refused(Refusal::Level, &samples, bad, 0, [0, 0, 0]);
     refused(Refusal::Threshold, &samples, Settings { level: 2, ..bad }, 0, [0, 0, 0]);
 }

@@ -118,16 +118,16 @@ fn a_file_is_read() {
 /// The line of a listing for a message of window k.
 fn line<const N: usize>(k: usize, found: &Answer<N>) -> String {
     let bits = |x: f32| if x.is_nan() { 0x7FC0_0000 } else { x.to_bits() };
-    let Answer { index, fraction, repairs, slicer, cn0, .. } = *found;
+    let Answer { index, fraction, repairs, slicer, cn0, undecided, .. } = *found;
     let address = found.address().map_or("-".into(), |address| address.to_string());
     let (avr, fraction, cn0) = (found.avr(), bits(fraction), bits(cn0));
-    format!("{k} {index} {fraction:08X} {avr} {address} {repairs} {slicer} {cn0:08X}\n")
+    format!("{k} {index} {fraction:08X} {avr} {address} {repairs} {slicer} {cn0:08X} {undecided}\n")
 }
 
 #[test]
 fn the_samples_are_listed() {
     let folder = Path::new(env!("CARGO_MANIFEST_DIR")).join("../../samples");
-    for name in ["addresses", "both", "listing", "noisy", "silent"] {
+    for name in ["addresses", "blanked", "both", "listing", "noisy", "silent"] {
         let windows = Windows::new(std::fs::File::open(folder.join(name).with_extension("win")).unwrap()).unwrap();
         let settings = windows.settings();
         let mut text = format!("windows {}\n", windows.announced());

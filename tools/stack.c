@@ -16,16 +16,16 @@ static unsigned found[CALLS];
 
 static void *run(void *unused) {
     static uint8_t message[14], short_message[7];
-    static uint64_t words[8], short_words[8];
+    static uint64_t words[9], short_words[9];
     static float numbers[2], short_numbers[2];
     struct khlongrae_both_answer both = {1, 1};
     (void)unused;
     switch (call) {
-    case LONG: both.number = khlongrae_decode(samples, NUMBERS, 2, 0.0f, 0.0f, 112, 128, message, 14, words, 8, numbers, 2); break;
-    case SHORT: both.number = khlongrae_decode_short(samples, NUMBERS, 2, 0.0f, 0.0f, 112, 128, message, 7, words, 8, numbers, 2); break;
+    case LONG: both.number = khlongrae_decode(samples, NUMBERS, 2, 0.0f, 0.0f, 112, 128, message, 14, words, 9, numbers, 2); break;
+    case SHORT: both.number = khlongrae_decode_short(samples, NUMBERS, 2, 0.0f, 0.0f, 112, 128, message, 7, words, 9, numbers, 2); break;
     case BOTH:
-        both = khlongrae_decode_both(samples, NUMBERS, 2, 0.0f, 0.0f, 112, 128, message, 14, words, 8, numbers, 2, short_message, 7,
-                                     short_words, 8, short_numbers, 2);
+        both = khlongrae_decode_both(samples, NUMBERS, 2, 0.0f, 0.0f, 112, 128, message, 14, words, 9, numbers, 2, short_message, 7,
+                                     short_words, 9, short_numbers, 2);
         break;
     default: break;
     }
@@ -63,8 +63,8 @@ int main(void) {
     int wrong = 0;
     if (posix_memalign((void **)&stack, 4096, STACK)) return 2;
     idle = used(NOTHING);
-    // a clean message, each pair of neighbouring bits damaged, a short one with each bit damaged, and noise: all trials are made and
-    // all lookups
+    // a clean message, each pair of neighbouring bits damaged, every other time with five bits of which nothing came in, a short one with
+    // each bit damaged, and noise: all trials are made and all lookups, and undecided bits are counted
     for (int w = 0; w < 400; w++) {
         uint8_t damaged[14], shorter[7];
         memcpy(damaged, clean, 14);
@@ -73,6 +73,7 @@ int main(void) {
         if (w < 112) {
             if (w > 0) damage(damaged, w), damage(damaged, w - 1);
             send(damaged, 14, 128);
+            if (w % 2) memset(samples + 2 * (128 + 8 * 40), 0, 2 * 8 * 5 * sizeof *samples);
         } else if (w < 200) {
             if (w < 168) damage(shorter, w - 112);
             send(shorter, 7, 3 * w);

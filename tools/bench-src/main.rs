@@ -13,6 +13,8 @@ use std::hint::black_box;
 use std::time::Instant;
 
 const INDEX: u64 = 128_000;
+/// How many whole numbers a decode writes.
+const WORDS: usize = 9;
 
 /// Who decodes: each has its windows at hand, and answers whether window i holds a message.
 type Decoder = Box<dyn FnMut(usize) -> bool>;
@@ -93,17 +95,31 @@ unsafe extern "C" {
 #[link(name = "khlongrae_before", kind = "static")]
 unsafe extern "C" {
     decode!(before_khlongrae_decode);
+    fn before_khlongrae_version() -> u32;
 }
 
-/// A decode of messages of so many bytes.
+/// How many whole numbers a decode writes, by the number of the library's interface: in 1 it did not count undecided bits.
+#[cfg(before)]
+fn words_by(version: u32) -> usize {
+    match version {
+        1 => 8,
+        2 => WORDS,
+        _ => panic!("the archive before has the interface number {version}, which is not known here"),
+    }
+}
+
+/// A decode of messages of so many bytes, by a library that writes so many whole numbers.
 macro_rules! one {
-    ($decode:ident, $bytes:literal, $windows:expr, $s:expr) => {{
-        let (windows, s) = ($windows.to_vec(), $s);
-        let (mut message, mut words, mut floats) = ([0; $bytes], [0; 8], [0.0; 2]);
+    ($decode:ident, $bytes:literal, $windows:expr, $s:expr) => {
+        one!($decode, $bytes, $windows, $s, WORDS)
+    };
+    ($decode:ident, $bytes:literal, $windows:expr, $s:expr, $words:expr) => {{
+        let (windows, s, n) = ($windows.to_vec(), $s, $words);
+        let (mut message, mut words, mut floats) = ([0; $bytes], [0; WORDS], [0.0; 2]);
         Box::new(move |i: usize| {
             let x: &Vec<f32> = black_box(&windows[i]);
             let (m, w, f) = (message.as_mut_ptr(), words.as_mut_ptr(), floats.as_mut_ptr());
-            unsafe { $decode(x.as_ptr(), x.len(), s.level, s.threshold, s.second, s.distance, INDEX, m, $bytes, w, 8, f, 2) == 0 }
+            unsafe { $decode(x.as_ptr(), x.len(), s.level, s.threshold, s.second, s.distance, INDEX, m, $bytes, w, n, f, 2) == 0 }
         }) as Decoder
     }};
 }
@@ -111,15 +127,15 @@ macro_rules! one {
 macro_rules! two {
     ($decode:ident, $windows:expr, $s:expr) => {{
         let (windows, s) = ($windows.to_vec(), $s);
-        let (mut message, mut words, mut floats) = ([0; 14], [0; 8], [0.0; 2]);
-        let (mut short, mut short_words, mut short_floats) = ([0; 7], [0; 8], [0.0; 2]);
+        let (mut message, mut words, mut floats) = ([0; 14], [0; WORDS], [0.0; 2]);
+        let (mut short, mut short_words, mut short_floats) = ([0; 7], [0; WORDS], [0.0; 2]);
         Box::new(move |i: usize| {
             let x: &Vec<f32> = black_box(&windows[i]);
             let (m, w, f) = (message.as_mut_ptr(), words.as_mut_ptr(), floats.as_mut_ptr());
             let (n, v, g) = (short.as_mut_ptr(), short_words.as_mut_ptr(), short_floats.as_mut_ptr());
             let (x, len) = (x.as_ptr(), x.len());
             let both = unsafe {
-                $decode(x, len, s.level, s.threshold, s.second, s.distance, INDEX, m, 14, w, 8, f, 2, n, 7, v, 8, g, 2)
+                $decode(x, len, s.level, s.threshold, s.second, s.distance, INDEX, m, 14, w, WORDS, f, 2, n, 7, v, WORDS, g, 2)
             };
             both.long == 0 || both.short == 0
         }) as Decoder
@@ -155,7 +171,7 @@ fn decoder(who: &str, windows: &[Vec<f32>], s: Settings) -> Decoder {
         "both" => two!(khlongrae_decode_both, windows, s),
         "both-native" => two!(native_khlongrae_decode_both, windows, s),
         #[cfg(before)]
-        "before" => one!(before_khlongrae_decode, 14, windows, s),
+        "before" => one!(before_khlongrae_decode, 14, windows, s, words_by(unsafe { before_khlongrae_version() })),
         "rust" => rust!(oracle_a, windows, s),
         "rust-native" => rust!(oracle_n, windows, s),
         "rust-algebraic" => rust!(oracle_g, windows, s),

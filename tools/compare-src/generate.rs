@@ -1,7 +1,7 @@
 //! Windows of every kind. One in three holds short messages.
 use crate::counts::Counts;
-use crate::recipe::{Plant, Random, Recipe, Shape};
-use crate::rules::{self, Answer, Both, SHORT, Settings, Tables, Window, at, bytes_of, divided};
+use crate::recipe::{Plant, Random, Recipe, Shape, blank};
+use crate::rules::{self, Answer, Both, LONG, SHORT, Settings, Tables, Window, at, bytes_of, divided};
 
 pub const NAMES: &[&str] = &[
     "window: planted at four samples in a row",
@@ -10,6 +10,9 @@ pub const NAMES: &[&str] = &[
     "window: full pulses, two messages",
     "window: near tie",
     "window: two messages, a NaN in one",
+    "window: bits with equal halves",
+    "window: a blanked stretch",
+    "window: bits without a number",
     "window: a message in noise",
     "window: two messages in noise",
     "window: pure noise",
@@ -22,6 +25,9 @@ pub const NAMES: &[&str] = &[
     "window: short, full pulses, two plants",
     "window: short, near tie",
     "window: two short messages, a NaN in one",
+    "window: short, bits with equal halves",
+    "window: short, a blanked stretch",
+    "window: short, bits without a number",
     "window: a short message inside a long one",
     "window: a reply to an interrogator",
     "window: a short message in noise",
@@ -197,6 +203,15 @@ fn stores(r: &mut Random, start: u32) -> Vec<(u32, u32)> {
         })
         .collect()
 }
+/// Stretches in which nothing comes in, here and there.
+fn blanks(r: &mut Random, start: u32) -> Vec<(u32, u32)> {
+    let count = if r.often(12) { 1 + r.below(2) } else { 0 };
+    let one = |r: &mut Random| {
+        let longest = r.pick(&[4, 8, 8, 40, 400]);
+        ((start + r.below(896) as u32).min(1154), 1 + r.below(longest) as u32)
+    };
+    (0..count).map(|_| one(r)).collect()
+}
 /// A plant's 112 bits with these of a short message somewhere among them: beside them another one, any bits, or zeros.
 fn around(r: &mut Random, t: &Tables, start: u32, short: (u128, u128)) -> (u128, u128) {
     // The first place of a window is read from the first bit of an early plant, the last one from bit 56 of a late plant.
@@ -289,6 +304,7 @@ fn recipe(r: &mut Random, t: &Tables) -> (&'static str, Recipe) {
         scale: scale(r),
         shape,
         plants,
+        blanks: blanks(r, first),
         stores: stores(r, first),
     };
     (kind, recipe)
@@ -305,6 +321,7 @@ fn simple(r: &mut Random, start: u32, coherent: u128, noncoherent: u128) -> Reci
         scale: 1.0,
         shape: r.pick(&[Shape::Full, Shape::Thin]),
         plants: alone(plant),
+        blanks: vec![],
         stores: vec![],
     }
 }
@@ -344,6 +361,103 @@ fn two_and_nan(r: &mut Random, t: &Tables) -> Recipe {
     let empty = start + 8 * j as u32 + if plant & at(j) == 0 { 0 } else { 4 };
     Recipe { stores: vec![(2 * (empty + 1) + 1, f32::NAN.to_bits())], ..simple(r, start, plant, plant) }
 }
+/// A message of which some ones are lost, as many as can be repaired or fewer; at times a message of the fewest ones. What is left of its
+/// bits, and which ones were lost.
+fn losing(r: &mut Random, t: &Tables) -> (u128, u128) {
+    let fewest = t.kind.fewest.iter().fold(0, |m, &j| m | at(j));
+    let message = if r.often(2) { fewest } else { whole(r, t, true) };
+    let most = t.kind.most as usize;
+    let count = if r.often(2) { most } else { r.below(most + 1) } as u32;
+    let mut lost: u128 = 0;
+    while lost.count_ones() < count {
+        lost |= message & errors(r, t, 1);
+    }
+    (message ^ lost, lost)
+}
+/// Which bits are to be undecided, among those that are 0: none, one, some, a stretch or all; lost ones and the last one more often.
+fn undecided(r: &mut Random, t: &Tables, read: u128, lost: u128) -> u128 {
+    let some = match r.below(8) {
+        0 => 0,
+        1 => errors(r, t, 1),
+        2 => random_message(r),
+        3 => t.kind.all() >> r.below(t.kind.bits),
+        _ => t.kind.all(),
+    };
+    let lost = if r.often(3) { 0 } else { lost };
+    let last = if r.often(4) { at(t.kind.bits - 1) } else { 0 };
+    (some | lost | last) & t.kind.all() & !read
+}
+/// Two plants at one sample, with pulses of the same height: where their bits differ both halves are equal, and 0 is read. One slicer
+/// reads the message; the other one the same, nothing but undecided bits, or anything.
+fn equal_halves(r: &mut Random, t: &Tables) -> Recipe {
+    let (read, lost) = losing(r, t);
+    let own = (read, undecided(r, t, read, lost));
+    let other = match r.below(4) {
+        0 | 1 => (0, t.kind.all()),
+        2 => (read, undecided(r, t, read, lost)),
+        _ => (random_message(r) & t.kind.all(), 0),
+    };
+    let offset = r.below(113 - t.kind.bits);
+    // Beside a short message there are bits 0, or undecided ones too.
+    let beside = if r.often(2) { 0 } else { LONG.all() & !(t.kind.all() >> offset) };
+    let both = if r.often(2) { [own, other] } else { [other, own] };
+    let [coherent, noncoherent] = both.map(|(read, undecided)| [read >> offset, (read | undecided) >> offset | beside]);
+    let start = start(r, 255);
+    let mut recipe = Recipe { noise: 0.0, scale: scale(r), ..simple(r, start, coherent[0], noncoherent[0]) };
+    recipe.plants[1] = Plant { coherent: bytes_of(coherent[1]), noncoherent: bytes_of(noncoherent[1]), ..recipe.plants[0] };
+    recipe
+}
+/// What the slicers are to read where both read a message, or one of them: then the other one has too many bits wrong.
+fn by_one_or_both(r: &mut Random, t: &Tables, message: u128) -> [u128; 2] {
+    let count = 3 + r.below(10);
+    let wrong = message ^ errors(r, t, count);
+    r.pick(&[[message, message], [message, wrong], [wrong, message], [wrong, message]])
+}
+/// A message with a stretch in which nothing came in, of one bit up to all. There its bits are 0, but for as many as can be repaired or
+/// fewer; only its header and its last 24 bits are as they come.
+fn blanked(r: &mut Random, t: &Tables) -> Recipe {
+    let first = r.below(t.kind.bits);
+    let longest = r.pick(&[1, 8, t.kind.bits]);
+    let count = (1 + r.below(longest)).min(t.kind.bits - first);
+    let stretch = (first..first + count).fold(0, |m, j| m | at(j));
+    let header = 0xFF << 104;
+    let mut body = whole(r, t, true) & (!stretch | header);
+    for _ in 0..r.below(t.kind.most as usize + 1) {
+        body |= at(first + r.below(count)) & !header;
+    }
+    let message = ended(t, body);
+    let offset = r.below(113 - t.kind.bits);
+    let [coherent, noncoherent] = by_one_or_both(r, t, message).map(|m| m >> offset);
+    let start = start(r, 255);
+    // A stretch may begin or end within a bit.
+    let (early, late) = r.pick(&[(0, 0), (0, 0), (0, 0), (0, 4), (4, 0), (3, 2)]);
+    let blank = (start + 8 * (offset + first) as u32 - early, 8 * count as u32 + early - late);
+    Recipe { blanks: vec![blank], scale: scale(r), ..simple(r, start, coherent, noncoherent) }
+}
+/// A message with bits that a NaN leaves undecided, or infinities in both halves, in one part of their samples; lost ones among them.
+fn without_number(r: &mut Random, t: &Tables) -> Recipe {
+    let (read, lost) = losing(r, t);
+    let offset = r.below(113 - t.kind.bits);
+    let [coherent, noncoherent] = by_one_or_both(r, t, read).map(|m| m >> offset);
+    let start = start(r, 255);
+    let mut bits: Vec<usize> = (0..t.kind.bits).filter(|j| lost & at(*j) != 0).collect();
+    for _ in 0..r.below(5) {
+        let zeros = !read & errors(r, t, 1);
+        bits.extend((0..t.kind.bits).filter(|j| zeros & at(*j) != 0));
+    }
+    let mut stores = vec![];
+    for j in bits {
+        let first = start as usize + 8 * (offset + j);
+        let part = r.below(2);
+        let [one, other] = [0, 4].map(|half| (2 * (first + half + r.below(4)) + part) as u32);
+        if r.often(4) && stores.len() < 7 {
+            stores.extend([one, other].map(|at| (at, f32::INFINITY.to_bits())));
+        } else if stores.len() < 8 {
+            stores.push((r.pick(&[one, other]), f32::NAN.to_bits()));
+        }
+    }
+    Recipe { stores, ..simple(r, start, coherent, noncoherent) }
+}
 /// A reply to an interrogator: its code, 1 to 127, is xored into the last 7 bits of what would be a squitter.
 fn reply(r: &mut Random, t: &Tables) -> (Recipe, u8, u128) {
     let code = if r.often(3) { 1 + r.below(127) as u8 } else { 1 << r.below(7) };
@@ -366,6 +480,7 @@ fn plain(coherent: u128, noncoherent: u128, shape: Shape, threshold: u32, stores
         scale: 1.0,
         shape,
         plants: alone(plant),
+        blanks: vec![],
         stores: stores.to_vec(),
     }
 }
@@ -423,6 +538,7 @@ fn on_air(r: &mut Random, messages: &[&Tables]) -> Vec<f32> {
         }
         transmit(r, t, &mut x, message, start, amplitude, phase);
     }
+    blanks(r, 128).into_iter().for_each(|stretch| blank(&mut x, stretch));
     for (j, bits) in stores(r, 128) {
         x[j as usize] = f32::from_bits(bits);
     }
@@ -470,28 +586,34 @@ pub fn make(both: &Both, seed: u64, number: u64) -> Made {
     };
     let Both { long, short } = both;
     let (kind, samples) = if number % 3 == 2 {
-        match r.below(20) {
-            0..=8 if r.often(20) => cook(("window: short, near tie", near_tie(r, short))),
-            0..=8 => cook(recipe(r, short)),
-            9 | 10 => cook(("window: two short messages, a NaN in one", two_and_nan(r, short))),
-            11 => cook(("window: a short message inside a long one", one_inside(r, both))),
-            12 | 13 => {
+        match r.below(32) {
+            0..=13 if r.often(20) => cook(("window: short, near tie", near_tie(r, short))),
+            0..=13 => cook(recipe(r, short)),
+            14 | 15 => cook(("window: two short messages, a NaN in one", two_and_nan(r, short))),
+            16 => cook(("window: a short message inside a long one", one_inside(r, both))),
+            17..=19 => {
                 let (recipe, code, squitter) = reply(r, short);
                 replied = Some((code, bytes_of(squitter)));
                 cook(("window: a reply to an interrogator", recipe))
             }
-            14 | 15 => ("window: a short message in noise", on_air(r, &[short])),
-            16 => ("window: two short messages in noise", on_air(r, &[short, short])),
-            _ => ("window: a long and a short message in noise", on_air(r, &[long, short])),
+            20 | 21 => ("window: a short message in noise", on_air(r, &[short])),
+            22 => ("window: two short messages in noise", on_air(r, &[short, short])),
+            23..=25 => ("window: a long and a short message in noise", on_air(r, &[long, short])),
+            26..=28 => cook(("window: short, bits with equal halves", equal_halves(r, short))),
+            29 | 30 => cook(("window: short, a blanked stretch", blanked(r, short))),
+            _ => cook(("window: short, bits without a number", without_number(r, short))),
         }
     } else {
-        match r.below(16) {
-            0..=9 if r.often(20) => cook(("window: near tie", near_tie(r, long))),
-            0..=9 if r.often(20) => cook(("window: two messages, a NaN in one", beside_nan(r, long))),
-            0..=9 => cook(recipe(r, long)),
-            10..=12 => ("window: a message in noise", on_air(r, &[long])),
-            13 => ("window: two messages in noise", on_air(r, &[long, long])),
-            14 => {
+        match r.below(26) {
+            0..=15 if r.often(20) => cook(("window: near tie", near_tie(r, long))),
+            0..=15 if r.often(20) => cook(("window: two messages, a NaN in one", beside_nan(r, long))),
+            0..=15 => cook(recipe(r, long)),
+            16 | 17 => cook(("window: bits with equal halves", equal_halves(r, long))),
+            18 => cook(("window: a blanked stretch", blanked(r, long))),
+            19 => cook(("window: bits without a number", without_number(r, long))),
+            20..=22 => ("window: a message in noise", on_air(r, &[long])),
+            23 => ("window: two messages in noise", on_air(r, &[long, long])),
+            24 => {
                 let size = scale(r);
                 ("window: pure noise", (0..2310).map(|_| size * r.normal()).collect())
             }

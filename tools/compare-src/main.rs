@@ -8,7 +8,7 @@ mod rules;
 use counts::Counts;
 use proved::Lent;
 use recipe::Random;
-use rules::{Answer, Both, Settings, Tables, bits};
+use rules::{Answer, Both, Settings, Tables, Window, bits};
 use std::fmt::Debug;
 use std::fs::File;
 use std::io::Write;
@@ -38,6 +38,7 @@ macro_rules! ask {
                 cn0,
                 index,
                 fraction,
+                undecided: 0,
             },
         }
     }};
@@ -66,6 +67,9 @@ fn all_bits(xs: &[f32]) -> Vec<u32> {
 
 const KERNEL_NAMES: &[&str] = &[
     "kernels: windows",
+    "kernels: a row of another length refused",
+    "kernels: another length refused, output #1-4",
+    "kernels: symbols of no message refused",
     "kernels: remainders and distances",
     "kernels: offset 33 refused",
     "kernels: powers",
@@ -76,7 +80,76 @@ const KERNEL_NAMES: &[&str] = &[
     "kernels: cn0",
 ];
 
-/// Symbols, streams, remainders, distances, powers and headers of the window that oracle a has decoded.
+/// Of all bits that the symbols of a place give, by kind of message and slicer.
+const PLACE_NAMES: &[&str] = &[
+    "112 bits, coherent: none undecided",
+    "112 bits, coherent: one undecided",
+    "112 bits, coherent: many undecided",
+    "112 bits, coherent: all undecided",
+    "112 bits, noncoherent: none undecided",
+    "112 bits, noncoherent: one undecided",
+    "112 bits, noncoherent: many undecided",
+    "112 bits, noncoherent: all undecided",
+    "56 bits, coherent: none undecided",
+    "56 bits, coherent: one undecided",
+    "56 bits, coherent: many undecided",
+    "56 bits, coherent: all undecided",
+    "56 bits, noncoherent: none undecided",
+    "56 bits, noncoherent: one undecided",
+    "56 bits, noncoherent: many undecided",
+    "56 bits, noncoherent: all undecided",
+];
+
+/// Both slicings of each clock phase: the bits by the Rust, the marks by the rules. Then calls that are refused: their memory stays.
+fn slicings(c: &mut Counts, f: &mut Faults, r: &mut Random, number: u64, symbols: &[f32], bits: &[Vec<u8>; 2], w: &Window) {
+    let marks = [0, 1].map(|slicer| w.marks(slicer));
+    for k in 0..4 {
+        let row = &symbols[576 * k..576 * k + 576];
+        let mut out = [(); 4].map(|()| vec![0xA5; 36]);
+        f.same("streams: number", number, proved::streams(row, &mut out), 0);
+        let theirs = [&bits[0], &bits[1], &marks[0], &marks[1]].map(|all| all[36 * k..36 * k + 36].to_vec());
+        f.same("streams and marks", number, &out, &theirs);
+        f.same("the last mark of stream 1", number, [out[2][35] & 1, out[3][35] & 1], [1, 1]);
+    }
+    let row = &symbols[..576];
+    let mut call = |name: &str, row: &[f32], lengths: [usize; 4], refused: u32| {
+        let untouched = lengths.map(|n| vec![0xA5; n]);
+        let mut out = untouched.clone();
+        let got = (proved::streams(row, &mut out), out);
+        c.met(name, f.same("a slicing that is refused", number, got, (refused, untouched)));
+    };
+    for k in 0..4 {
+        let mut lengths = [36; 4];
+        lengths[k] = r.pick(&[0, 1, 18, 35, 37, 72]);
+        call(&format!("kernels: another length refused, output {}", k + 1), row, lengths, 3);
+        // A row is looked at first.
+        let short = r.pick(&[0, 1, 288, 574, 575]);
+        lengths[k] = r.pick(&[36, lengths[k]]);
+        call("kernels: a row of another length refused", &row[..short], lengths, 2);
+    }
+}
+
+/// How many bits were undecided at each place that ends within the window, by the symbols alone.
+fn counted(c: &mut Counts, f: &mut Faults, r: &mut Random, number: u64, symbols: &[f32], w: &Window) {
+    for kind in [&rules::LONG, &rules::SHORT] {
+        for (phase, start) in (0..4).flat_map(|phase| (0..=288 - 2 * kind.bits).map(move |start| (phase, start))) {
+            let row = &symbols[576 * phase + 2 * start..][..4 * kind.bits];
+            for slicer in 0..2 {
+                let ours = proved::undecided(row, slicer);
+                let count = w.undecided(kind, slicer, [start / 2, phase, start % 2]).count_ones();
+                f.same("undecided bits of a place", number, (ours.number, ours.value), (0, count));
+                let amount = rules::how_many(kind.bits, u64::from(count));
+                c.met(&format!("kernels: {} bits, {}: {amount}", kind.bits, rules::SLICERS[slicer]), true);
+            }
+        }
+    }
+    let length = r.pick(&[0, 1, 222, 223, 225, 226, 446, 447, 449, 450, 576]);
+    let ours = proved::undecided(&symbols[..length], r.below(2));
+    let refused = f.same("symbols of no message", number, (ours.number, ours.value), (2, 0));
+    c.met("kernels: symbols of no message refused", refused);
+}
+
+/// Symbols, streams, marks, undecided bits, remainders, distances, powers and headers of the window that oracle a has decoded.
 fn kernels(
     c: &mut Counts,
     f: &mut Faults,
@@ -91,14 +164,9 @@ fn kernels(
     f.same("symbols: number", number, proved::symbols(samples, &mut symbols), 0);
     f.same("symbols", number, all_bits(&symbols), all_bits(&o.symbols()));
     let theirs = o.streams();
-    let mut ours = [vec![0; 144], vec![0; 144]];
-    let [coherent, noncoherent] = &mut ours;
-    for k in 0..4 {
-        let part = 36 * k..36 * k + 36;
-        let row = &symbols[576 * k..576 * k + 576];
-        f.same("streams: number", number, proved::streams(row, &mut coherent[part.clone()], &mut noncoherent[part]), 0);
-    }
-    f.same("streams", number, &ours, &theirs);
+    let w = &Window::of(samples);
+    slicings(c, f, r, number, &symbols, &theirs, w);
+    counted(c, f, r, number, &symbols, w);
     for at in (0..144).step_by(18) {
         let [a, b] = [&theirs[0][at..at + 18], &theirs[1][at..at + 18]];
         for offset in 0..33 {
@@ -384,6 +452,7 @@ fn main() {
         (short, rules::SHORT_NAMES),
         ("", generate::NAMES),
         ("", KERNEL_NAMES),
+        ("kernels: ", PLACE_NAMES),
         ("", ADDRESS_NAMES),
         ("", PAIR_NAMES),
         ("", REPLY_NAMES),
@@ -402,6 +471,10 @@ fn main() {
         f.same("kind of address, by the first byte", u64::from(first), proved::address_kind(first), rules::address_kind(first));
     }
     headers(f);
+    for t in [&t.long, &t.short] {
+        f.same("zeros, as undecided bits are, are a message", 0, t.takes_zeros(), false);
+        f.same("the fewest ones of a message", 0, t.fewest_is_so(), true);
+    }
     if g.lookups {
         lookups(f, &t.long);
     }
@@ -410,9 +483,12 @@ fn main() {
         let ours = proved::decode(&samples, s, index);
         let [a, b] = [ask!(o.a, s, &samples, index), ask!(o.b, s, &samples, index)];
         let [l, only_s] = [ask!(o.l, s, &samples, index), ask!(o.s, s, &samples, index)];
-        f.same(name, 0, ours.fields(), b.fields());
-        f.same(name, 0, cause(&ours, &a, &l, &only_s, &b), Some(CAUSES[wanted]));
-        recorded.push(recipe.record(&b, &rules::decode(&t.short, &mut Counts::default(), &samples, s, index)));
+        let [long, short] = [&t.long, &t.short].map(|t| rules::decode(t, &mut Counts::default(), &samples, s, index));
+        let known = ours.but_undecided();
+        f.same(name, 0, known.fields(), b.fields());
+        f.same(name, 0, cause(&known, &a, &l, &only_s, &b), Some(CAUSES[wanted]));
+        f.same(name, 0, ours.fields(), long.fields());
+        recorded.push(recipe.record(&Answer { undecided: long.undecided, ..b }, &short));
         if g.show {
             println!("{name}\n  ours: {ours:?}\n  A:    {a:?}");
         }
@@ -420,6 +496,8 @@ fn main() {
     let [with_a, with_b] = ["A", "B"].map(|v| g.variants.contains(v));
     let (mut met_before, mut shown) = (vec![0u64; c.0.len()], [0; 6]);
     let (mut unclassified, mut differs_b, mut largest) = (0u64, 0u64, 0f32);
+    // By kind of message and slicer.
+    let mut most_undecided = [[0; 2]; 2];
     let began = Instant::now();
     let mut told = began;
     for number in g.first..g.first + g.windows {
@@ -446,14 +524,20 @@ fn main() {
         if let Some((code, squitter)) = &made.reply {
             reply(c, f, number, s.level, *code, squitter, &short);
         }
+        for (kind, found) in [ours, short].iter().enumerate().filter(|(_, found)| found.number == 0) {
+            let most = &mut most_undecided[kind][found.slicer as usize];
+            *most = found.undecided.max(*most);
+        }
+        // The Rust has no marks: undecided bits are compared with the rules alone.
+        let known = ours.but_undecided();
         let b = ask!(o.b, s, samples, index);
-        if with_b && !f.same("answer, by the Rust B", number, ours.fields(), b.fields()) {
+        if with_b && !f.same("answer, by the Rust B", number, known.fields(), b.fields()) {
             differs_b += 1;
         }
         let a = ask!(o.a, s, samples, index);
         if with_a {
             let (l, only_s) = (ask!(o.l, s, samples, index), ask!(o.s, s, samples, index));
-            match cause(&ours, &a, &l, &only_s, &b) {
+            match cause(&known, &a, &l, &only_s, &b) {
                 Some(name) => {
                     causes.met(name, true);
                     if name == CAUSES[1] && (ours.cn0 - a.cn0).abs() > largest {
@@ -467,7 +551,7 @@ fn main() {
                 }
                 None => {
                     unclassified += 1;
-                    f.same("A differs for no known cause: answer", number, ours.fields(), a.fields());
+                    f.same("A differs for no known cause: answer", number, known.fields(), a.fields());
                 }
             }
         }
@@ -484,7 +568,7 @@ fn main() {
             let brings: Vec<usize> = (0..now.len()).filter(|&k| now[k] > before[k]).collect();
             if brings.iter().any(|&k| met_before[k] < 12) && recipe.fits() {
                 brings.iter().for_each(|&k| met_before[k] += 1);
-                recorded.push(recipe.record(&b, &short_ruled));
+                recorded.push(recipe.record(&Answer { undecided: ruled.undecided, ..b }, &short_ruled));
             }
         }
         for found in [&ours, &short] {
@@ -515,6 +599,10 @@ fn main() {
     );
     for (name, times) in &c.0 {
         println!("{times:>12}  {name}");
+    }
+    for (t, [coherent, noncoherent]) in [&t.long, &t.short].iter().zip(most_undecided) {
+        let (bits, most) = (t.kind.bits, t.kind.most_undecided());
+        println!("the most undecided of {bits} bits: coherent {coherent}, noncoherent {noncoherent}; there can be {most}");
     }
     if with_a {
         for (name, times) in &causes.0 {

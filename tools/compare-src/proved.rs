@@ -30,7 +30,19 @@ unsafe extern "C" {}
 #[link(name = "probes", kind = "static")]
 unsafe extern "C" {
     fn probe_symbols(samples: *const f32, n: usize, symbols: *mut f32, m: usize) -> u32;
-    fn probe_streams(row: *const f32, n: usize, coherent: *mut u8, m: usize, noncoherent: *mut u8, k: usize) -> u32;
+    fn probe_streams(
+        row: *const f32,
+        n: usize,
+        coherent: *mut u8,
+        coherent_len: usize,
+        noncoherent: *mut u8,
+        noncoherent_len: usize,
+        coherent_marks: *mut u8,
+        coherent_marks_len: usize,
+        noncoherent_marks: *mut u8,
+        noncoherent_marks_len: usize,
+    ) -> u32;
+    fn probe_undecided(symbols: *const f32, n: usize, noncoherent: bool) -> Number;
     fn probe_power(symbols: *const f32, n: usize, message: *const u8, m: usize) -> Power;
     fn probe_noise_power(samples: *const f32, n: usize, message: *const u8, m: usize) -> Power;
     fn probe_cn0(prompt: f32, noise: f32) -> f32;
@@ -52,15 +64,15 @@ pub struct Lent {
 }
 
 impl Lent {
-    pub const LONG: [usize; 3] = [14, 8, 2];
-    pub const SHORT: [usize; 3] = [7, 8, 2];
+    pub const LONG: [usize; 3] = [14, 9, 2];
+    pub const SHORT: [usize; 3] = [7, 9, 2];
 
     pub fn zeros([message, words, floats]: [usize; 3]) -> Lent {
         Lent { message: vec![0; message], words: vec![0; words], floats: vec![0.0; floats] }
     }
     /// Where the number is not 0 the memory still holds the zeros that it was lent with.
     fn answer(&self, number: u32) -> Answer {
-        let [index, bit, phase, symbol, count, first, second, slicer] = self.words[..].try_into().unwrap();
+        let [index, bit, phase, symbol, count, first, second, slicer, undecided] = self.words[..].try_into().unwrap();
         Answer {
             number,
             place: [bit, phase, symbol],
@@ -70,6 +82,7 @@ impl Lent {
             cn0: self.floats[0],
             index,
             fraction: self.floats[1],
+            undecided,
         }
     }
 }
@@ -138,9 +151,13 @@ pub fn decode_both(samples: &[f32], s: Settings, index: u64) -> [Answer; 2] {
 pub fn symbols(samples: &[f32], out: &mut [f32]) -> u32 {
     unsafe { probe_symbols(samples.as_ptr(), samples.len(), out.as_mut_ptr(), out.len()) }
 }
-pub fn streams(row: &[f32], coherent: &mut [u8], noncoherent: &mut [u8]) -> u32 {
-    let (n, c, m) = (row.len(), coherent.len(), noncoherent.len());
-    unsafe { probe_streams(row.as_ptr(), n, coherent.as_mut_ptr(), c, noncoherent.as_mut_ptr(), m) }
+/// The bits of both slicers, then the marks of both.
+pub fn streams(row: &[f32], out: &mut [Vec<u8>; 4]) -> u32 {
+    let [(a, an), (b, bn), (c, cn), (d, dn)] = out.each_mut().map(|o| (o.as_mut_ptr(), o.len()));
+    unsafe { probe_streams(row.as_ptr(), row.len(), a, an, b, bn, c, cn, d, dn) }
+}
+pub fn undecided(symbols: &[f32], slicer: usize) -> Number {
+    unsafe { probe_undecided(symbols.as_ptr(), symbols.len(), slicer == 1) }
 }
 pub fn power(symbols: &[f32], message: &[u8]) -> Power {
     unsafe { probe_power(symbols.as_ptr(), symbols.len(), message.as_ptr(), message.len()) }

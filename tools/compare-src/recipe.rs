@@ -62,6 +62,8 @@ pub struct Recipe {
     pub scale: f32,
     pub shape: Shape,
     pub plants: [Plant; 4],
+    /// Stretches of samples that are zeros: the first of them, and how many.
+    pub blanks: Vec<(u32, u32)>,
     /// Numbers of the window, 0 to 2,309, with the bits that they take in the end.
     pub stores: Vec<(u32, u32)>,
 }
@@ -77,6 +79,13 @@ fn target(p: &Plant, n: usize, c: usize) -> f32 {
         p.amplitude + p.amplitude
     } else {
         0.0
+    }
+}
+
+/// What is left of a window where nothing came in for some samples.
+pub fn blank(x: &mut [f32], (first, count): (u32, u32)) {
+    for m in first..(first + count).min(1155) {
+        x[2 * m as usize..][..2].fill(0.0);
     }
 }
 
@@ -121,22 +130,26 @@ impl Recipe {
         for v in &mut x {
             *v *= self.scale;
         }
+        self.blanks.iter().for_each(|&stretch| blank(&mut x, stretch));
         for &(j, bits) in &self.stores {
             x[j as usize] = f32::from_bits(bits);
         }
         x
     }
 
-    /// How many stores a record has room for.
+    /// How many blanks and stores a record has room for.
+    const BLANKS: usize = 2;
     const STORES: usize = 8;
 
     /// Whether crates/replay can make it.
     pub fn fits(&self) -> bool {
-        self.stores.len() <= Recipe::STORES && self.plants.iter().all(|p| p.start < 256)
+        let room = self.blanks.len() <= Recipe::BLANKS && self.stores.len() <= Recipe::STORES;
+        room && self.plants.iter().all(|p| p.start < 256)
     }
 
-    /// For crates/replay, 376 bytes, little-endian 32-bit words but for the strings: settings, index, seed, noise, scale, shape;
-    /// four plants; eight stores, some of them beyond the window; and what the long search and the short one answer.
+    /// For crates/replay, 400 bytes, little-endian 32-bit words but for the strings: settings, index, seed, noise, scale, shape;
+    /// four plants; two blanks, some of no sample; eight stores, some of them beyond the window; and what the long search and the short
+    /// one answer.
     pub fn record(&self, long: &Answer, short: &Answer) -> Vec<u8> {
         let s = &self.settings;
         let mut out: Vec<u8> = vec![];
@@ -159,6 +172,10 @@ impl Recipe {
             out.extend(p.coherent);
             out.extend(p.noncoherent);
         }
+        for (first, count) in self.blanks.iter().chain(&[(0, 0); Recipe::BLANKS]).take(Recipe::BLANKS) {
+            out.extend(first.to_le_bytes());
+            out.extend(count.to_le_bytes());
+        }
         for (j, b) in self.stores.iter().chain(&[(u32::MAX, 0); Recipe::STORES]).take(Recipe::STORES) {
             out.extend(j.to_le_bytes());
             out.extend(b.to_le_bytes());
@@ -168,7 +185,7 @@ impl Recipe {
             a.place.iter().chain(&a.repairs).chain([&a.slicer]).for_each(|&w| out.extend((w as u32).to_le_bytes()));
             out.extend(a.message);
             out.extend([0; 2]);
-            [a.index as u32, (a.index >> 32) as u32, bits(a.cn0), bits(a.fraction)]
+            [a.index as u32, (a.index >> 32) as u32, bits(a.cn0), bits(a.fraction), a.undecided as u32]
                 .iter()
                 .for_each(|w| out.extend(w.to_le_bytes()));
         }

@@ -1,5 +1,6 @@
 //! The rules, written down a second time and apart from both decoders, for either kind of message. This is where the branches are counted.
 use crate::counts::{Counts, Under};
+use std::cmp::Ordering;
 
 #[derive(Clone, Copy, Debug, PartialEq)]
 pub struct Settings {
@@ -19,6 +20,8 @@ pub struct Kind {
     pub most: u32,
     /// Each format that is taken, with the codes that it is taken with.
     pub headers: &'static [(u8, &'static [u8])],
+    /// Where the ones of a message are whose remainder is 0 and whose header is taken: none such has fewer.
+    pub fewest: &'static [usize],
     /// What stands before the names of its counts.
     pub under: &'static str,
 }
@@ -26,11 +29,24 @@ pub struct Kind {
 const CAPABILITIES: &[u8] = &[0, 4, 5, 6, 7];
 
 /// Extended squitters.
-pub const LONG: Kind =
-    Kind { bits: 112, last: 31, most: 2, headers: &[(17, CAPABILITIES), (18, &[0, 2, 3, 4, 5, 6])], under: "" };
+pub const LONG: Kind = Kind {
+    bits: 112,
+    last: 31,
+    most: 2,
+    headers: &[(17, CAPABILITIES), (18, &[0, 2, 3, 4, 5, 6])],
+    fewest: &[0, 4, 16, 24, 86, 95],
+    under: "",
+};
 
 /// Acquisition squitters.
-pub const SHORT: Kind = Kind { bits: 56, last: 87, most: 1, headers: &[(11, CAPABILITIES)], under: "short: " };
+pub const SHORT: Kind = Kind {
+    bits: 56,
+    last: 87,
+    most: 1,
+    headers: &[(11, CAPABILITIES)],
+    fewest: &[1, 3, 4, 22, 31, 38, 39, 53],
+    under: "short: ",
+};
 
 impl Kind {
     pub fn header(&self, first: u8) -> bool {
@@ -40,13 +56,21 @@ impl Kind {
     pub fn message(&self, bits: u128) -> u128 {
         bits << (112 - self.bits)
     }
+    /// One whose bits are all 1.
+    pub fn all(&self) -> u128 {
+        self.message((1 << self.bits) - 1)
+    }
     pub fn remainder(&self, message: u128) -> u32 {
         divided(message >> (112 - self.bits))
+    }
+    /// The most bits of an answer that can be undecided. Such a bit is sliced as 0, so each 1 of the message was decided or repaired.
+    pub fn most_undecided(&self) -> u64 {
+        (self.bits - self.fewest.len()) as u64 + u64::from(self.most)
     }
 }
 
 /// Where the number is not 0 the rest is zeros. Slicer 0 is coherent; repairs are their count and positions. A short message has the
-/// first 7 bytes, and zeros behind them.
+/// first 7 bytes, and zeros behind them. The last field counts the bits that were undecided when that slicer made them.
 #[derive(Clone, Copy, Debug, Default)]
 pub struct Answer {
     pub number: u32,
@@ -57,6 +81,7 @@ pub struct Answer {
     pub cn0: f32,
     pub index: u64,
     pub fraction: f32,
+    pub undecided: u64,
 }
 
 /// A float's bits, with one pattern for all NaNs.
@@ -69,12 +94,17 @@ impl Answer {
         Answer { number, ..Answer::default() }
     }
     /// Every field, floats by their bits.
-    pub fn fields(&self) -> (u32, [u64; 3], [u8; 14], [u64; 3], u64, u32, u64, u32) {
-        (self.number, self.place, self.message, self.repairs, self.slicer, bits(self.cn0), self.index, bits(self.fraction))
+    pub fn fields(&self) -> (u32, [u64; 3], [u8; 14], [u64; 3], u64, u32, u64, u32, u64) {
+        let [cn0, fraction] = [self.cn0, self.fraction].map(bits);
+        (self.number, self.place, self.message, self.repairs, self.slicer, cn0, self.index, fraction, self.undecided)
     }
     /// The same but for cn0.
     pub fn but_cn0(&self) -> Answer {
         Answer { cn0: 0.0, ..*self }
+    }
+    /// The same but for the count of undecided bits, as the Rust answers: it has no marks.
+    pub fn but_undecided(&self) -> Answer {
+        Answer { undecided: 0, ..*self }
     }
 }
 
@@ -84,6 +114,10 @@ fn plus(a: Complex, b: Complex) -> Complex {
 }
 fn norm(z: Complex) -> f32 {
     z.0 * z.0 + z.1 * z.1
+}
+/// What a slicer compares of two symbols.
+fn measure(slicer: usize, z: Complex) -> f32 {
+    if slicer == 0 { z.0 } else { norm(z) }
 }
 fn sample(samples: &[f32], j: usize) -> Complex {
     (samples[2 * j], samples[2 * j + 1])
@@ -192,6 +226,23 @@ impl Tables {
         let choice = self.choices[usize::from(self.which[r as usize].checked_sub(1)?)];
         (choice[0] == count).then_some(choice)
     }
+    /// Whether so many positions, or fewer, from one on clear a remainder.
+    fn cleared(&self, r: u32, from: usize, count: usize) -> bool {
+        r == 0 || count > 0 && (from..self.kind.bits).any(|j| self.cleared(r ^ self.of_bit[j], j + 1, count - 1))
+    }
+    /// Whether `fewest` is what it says: its message is clear with a header that is taken, and none such has fewer ones.
+    pub fn fewest_is_so(&self) -> bool {
+        let ones = self.kind.fewest.iter().fold(0, |m, &j| m | at(j));
+        let fewer = |first: u8| {
+            let count = (self.kind.fewest.len() - 1).checked_sub(first.count_ones() as usize);
+            count.is_some_and(|count| self.cleared(self.remainder(u128::from(first) << 104), 8, count))
+        };
+        self.mends(0, ones, self.remainder(ones)) && !(0..=255).any(|first| self.kind.header(first) && fewer(first))
+    }
+    /// Whether bits that are all undecided, and so all 0, are a message, whatever the level.
+    pub fn takes_zeros(&self) -> bool {
+        (0..=2).any(|count| self.mends(count, 0, self.remainder(0)))
+    }
     /// The header of a message is one of those that are taken.
     fn good(&self, message: u128) -> bool {
         self.kind.header((message >> 104) as u8)
@@ -248,8 +299,8 @@ impl Window<'_> {
                         if 2 * i + s + 1 == 288 {
                             return 0;
                         }
-                        let (a, b) = (row[2 * i + s], row[2 * i + s + 1]);
-                        u8::from(if slicer == 0 { a.0 > b.0 } else { norm(a) > norm(b) })
+                        let [a, b] = [row[2 * i + s], row[2 * i + s + 1]].map(|z| measure(slicer, z));
+                        u8::from(a > b)
                     }));
                 }
             }
@@ -259,6 +310,32 @@ impl Window<'_> {
     pub fn bits(&self, kind: &Kind, slicer: usize, [bit, phase, symbol]: [usize; 3]) -> u128 {
         let stream = &self.streams[8 * slicer + 2 * phase + symbol];
         kind.message(stream[bit..bit + kind.bits].iter().fold(0, |m, &b| m << 1 | u128::from(b)))
+    }
+    /// Whether the bit of two symbols was undecided: they are equal, or in no order since one of them is NaN. The last symbol has none
+    /// behind it.
+    fn mark(&self, slicer: usize, phase: usize, symbol: usize) -> bool {
+        let row = &self.symbols[phase];
+        let after = row.get(symbol + 1).map(|&z| measure(slicer, z));
+        !after.and_then(|b| measure(slicer, row[symbol]).partial_cmp(&b)).is_some_and(Ordering::is_ne)
+    }
+    /// All marks of a slicer: for each clock phase both streams, eight marks a byte, the first highest.
+    pub fn marks(&self, slicer: usize) -> Vec<u8> {
+        let mut out = vec![];
+        for (phase, stream) in (0..4).flat_map(|phase| [(phase, 0), (phase, 1)]) {
+            for k in 0..18 {
+                let mark = |i: usize| u8::from(self.mark(slicer, phase, 2 * i + stream));
+                out.push((8 * k..8 * k + 8).fold(0, |byte, i| byte << 1 | mark(i)));
+            }
+        }
+        out
+    }
+    /// The undecided bits of a message at a place.
+    pub fn undecided(&self, kind: &Kind, slicer: usize, [bit, phase, symbol]: [usize; 3]) -> u128 {
+        (0..kind.bits).filter(|j| self.mark(slicer, phase, 2 * (bit + j) + symbol)).fold(0, |m, j| m | at(j))
+    }
+    /// What is compared for bit j of a message at a place.
+    fn halves(&self, slicer: usize, [bit, phase, symbol]: [usize; 3], j: usize) -> [f32; 2] {
+        [0, 1].map(|half| measure(slicer, self.symbols[phase][2 * (bit + j) + symbol + half]))
     }
     pub fn distance(&self, kind: &Kind, place: [usize; 3]) -> u32 {
         (self.bits(kind, 0, place) ^ self.bits(kind, 1, place)).count_ones()
@@ -331,7 +408,37 @@ pub const NAMES: &[&str] = &[
     "found",
     "nothing found",
     "refused #2-6",
+    "coherent: none undecided",
+    "coherent: one undecided",
+    "coherent: many undecided",
+    "coherent: as many undecided as there can be",
+    "coherent: an undecided bit with zeros",
+    "coherent: an undecided bit with equal halves, not zeros",
+    "coherent: an undecided bit with a NaN",
+    "coherent: an undecided bit repaired",
+    "coherent: the last bit undecided",
+    "coherent: another count by the other slicer",
+    "noncoherent: none undecided",
+    "noncoherent: one undecided",
+    "noncoherent: many undecided",
+    "noncoherent: as many undecided as there can be",
+    "noncoherent: an undecided bit with zeros",
+    "noncoherent: an undecided bit with equal halves, not zeros",
+    "noncoherent: an undecided bit with a NaN",
+    "noncoherent: an undecided bit repaired",
+    "noncoherent: the last bit undecided",
+    "noncoherent: another count by the other slicer",
 ];
+pub const SLICERS: [&str; 2] = ["coherent", "noncoherent"];
+/// Of so many bits so many. An answer never has all: zeros are no message.
+pub fn how_many(bits: usize, count: u64) -> &'static str {
+    match count {
+        0 => "none undecided",
+        1 => "one undecided",
+        _ if count == bits as u64 => "all undecided",
+        _ => "many undecided",
+    }
+}
 /// Of long messages alone.
 pub const LONG_NAMES: &[&str] = &[
     "reading by trial #5-6",
@@ -482,6 +589,24 @@ fn timing(kind: &Kind, c: &mut Under, w: &Window, start: usize, message: u128) -
     (moves, fraction)
 }
 
+/// How many of an answer's bits were undecided by the slicer that it names: those at its place, before any repair.
+fn undecided(kind: &Kind, c: &mut Under, w: &Window, best: &Candidate) -> u64 {
+    let Candidate { place, reading: Reading { slicer, repairs, .. }, .. } = *best;
+    let [own, other] = [slicer, 1 - slicer].map(|slicer| w.undecided(kind, slicer, place));
+    let count = u64::from(own.count_ones());
+    let mut met = |name: &str, holds: bool| c.met(&format!("{}: {name}", SLICERS[slicer]), holds);
+    let any = |test: &dyn Fn([f32; 2]) -> bool| (0..kind.bits).any(|j| own & at(j) != 0 && test(w.halves(slicer, place, j)));
+    met(how_many(kind.bits, count), true);
+    met("as many undecided as there can be", count == kind.most_undecided());
+    met("an undecided bit with zeros", any(&|[a, b]| a == 0.0 && b == 0.0));
+    met("an undecided bit with equal halves, not zeros", any(&|[a, b]| a == b && a != 0.0));
+    met("an undecided bit with a NaN", any(&|[a, b]| a.is_nan() || b.is_nan()));
+    met("an undecided bit repaired", repaired(0, repairs) & own != 0);
+    met("the last bit undecided", own & at(kind.bits - 1) != 0);
+    met("another count by the other slicer", own.count_ones() != other.count_ones());
+    count
+}
+
 /// The search for the kind of message that the tables are of.
 pub fn decode(t: &Tables, counts: &mut Counts, samples: &[f32], s: Settings, index: u64) -> Answer {
     let (kind, c) = (t.kind, &mut counts.under(t.kind.under));
@@ -558,6 +683,7 @@ pub fn decode(t: &Tables, counts: &mut Counts, samples: &[f32], s: Settings, ind
         c.met("answer at a bit offset above 31", bit > LONG.last);
         c.met("answer repaired at 49 to 55", best.reading.repairs[0] == 1 && best.reading.repairs[1] >= 49);
     }
+    let undecided = undecided(kind, c, w, &best);
     Answer {
         number: 0,
         place: best.place.map(|x| x as u64),
@@ -567,5 +693,6 @@ pub fn decode(t: &Tables, counts: &mut Counts, samples: &[f32], s: Settings, ind
         cn0: best.cn0,
         index: (index - 128 + start as u64).wrapping_add_signed(moves),
         fraction,
+        undecided,
     }
 }

@@ -9,6 +9,7 @@ use Rattle.probes.proofs.bits.probe_distance as bits-probe-distance
 use Rattle.probes.proofs.bits.probe_header as bits-probe-header
 use Rattle.probes.proofs.samples.probe_symbols as samples-probe-symbols
 use Rattle.probes.proofs.samples.probe_streams as samples-probe-streams
+use Rattle.probes.proofs.samples.probe_undecided as samples-probe-undecided
 use Rattle.probes.proofs.samples.probe_power as samples-probe-power
 use Rattle.probes.proofs.samples.probe_noise_power as samples-probe-noise-power
 use Rattle.probes.proofs.samples.probe_cn0 as samples-probe-cn0
@@ -40,7 +41,12 @@ samples-probe-symbols-fixed =
 pub samples-probe-streams-fixed : Fixed samples-probe-streams.ended (answer _) (λ M 𝓤 H. samples-probe-streams.clauses 𝓤 H) (λ M 𝓤 H. samples-probe-streams.spec 𝓤 H)
 samples-probe-streams-fixed =
     fixes samples-probe-streams.ended _ (answer-set samples-probe-streams.ended) refl (λ κs. refl)
-    (λ κs a r e. (r, now (e .1 .0), now (e .1 .1 .0))) (λ κs a y. (y .0, (tt, (y .1, (y .2, tt))))) (λ κs a r ws. refl)
+    (λ κs a r e. (r, now (e .1 .0), now (e .1 .1 .0), now (e .1 .1 .1 .0), now (e .1 .1 .1 .1 .0))) (λ κs a y. (y .0, (tt, (y .1, (y .2, (y .3, (y .4, tt))))))) (λ κs a r ws. refl)
+
+pub samples-probe-undecided-fixed : Fixed samples-probe-undecided.ended (answer _) (λ M 𝓤 H. samples-probe-undecided.clauses 𝓤 H) (λ M 𝓤 H. samples-probe-undecided.spec 𝓤 H)
+samples-probe-undecided-fixed =
+    fixes samples-probe-undecided.ended _ (answer-set samples-probe-undecided.ended) refl (λ κs. refl)
+    (λ κs a r e. r) (λ κs a y. (y, (tt, (tt, tt)))) (λ κs a r ws. refl)
 
 pub samples-probe-power-fixed : Fixed samples-probe-power.ended (answer _) (λ M 𝓤 H. samples-probe-power.clauses 𝓤 H) (λ M 𝓤 H. samples-probe-power.spec 𝓤 H)
 samples-probe-power-fixed =

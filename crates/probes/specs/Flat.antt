@@ -15,6 +15,8 @@ use Rattle.annex10.specs.declared.Repairs.{Repairs}
 use Rattle.annex10.specs.declared.Repairs.the-variants.{None, One, Two}
 use Rattle.annex10.specs.declared.Found.{Found}
 use Rattle.annex10.specs.declared.Found.the-variants.{At, Nothing}
+use Rattle.place.specs.declared.Slicer.{Slicer}
+use Rattle.place.specs.declared.Slicer.the-variants.{Coherent, Noncoherent}
 use Rattle.mode_s.specs.Counted.{countedRepairs}
 use Rattle.streams.specs.Headers.{validityAt}
 use Rattle.probes.specs.declared.samples.FlatPower.{FlatPower}
@@ -33,6 +35,10 @@ flatNumber (n, none) = record { number = n; value = 0 }
 abbrev pub flatTruth : Told Bool → FlatNumber
 flatTruth (n, some t) = record { number = n; value = asBit t }
 flatTruth (n, none) = record { number = n; value = 0 }
+
+-- who made the bits, by whether it was the noncoherent slicer
+abbrev pub slicerBy : Bool → Slicer
+slicerBy noncoherent = cond noncoherent Noncoherent Coherent
 
 -- the header of the message at a bit offset, with `count` positions repaired: a stream has 18 bytes, else 2, before 4 for the count
 unfoldable pub countedValidity : List ℕ → ℕ → ℕ → ℕ → ℕ → Told Bool

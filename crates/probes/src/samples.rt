@@ -1,16 +1,21 @@
-// From samples to symbols, streams and powers.
+// From samples to symbols, streams, undecided bits and powers.
+use crate::bits::FlatNumber;
 use kernels::power::Power;
 use kernels::power::postdecode_noise_power;
 use kernels::power::postdecode_power;
 use kernels::slicers::demodulate;
 use kernels::symbols::accumulate_symbols;
+use kernels::undecided::Undecided;
+use kernels::undecided::count_undecided;
+use place::Slicer;
 ghost use mathlib.Core.Path.{_≡_};
 ghost use Rattle.kernels.specs.Symbols.{accumulated};
 ghost use Rattle.kernels.specs.Slices.{demodulated};
+ghost use Rattle.kernels.specs.Undecided.{undecidedOf};
 ghost use Rattle.kernels.specs.Powers.{powerTold, powerAt, noisePowerAt};
 ghost use Rattle.cn0.specs.Estimate.{cn0Of};
 ghost use Rattle.math.specs.Parabola.{parabola};
-ghost use Rattle.probes.specs.Flat.{flatPower};
+ghost use Rattle.probes.specs.Flat.{flatPower, flatNumber, slicerBy};
 
 #[repr(C)]
 pub struct FlatPower {
@@ -26,10 +31,42 @@ pub extern "C" fn probe_symbols(samples: &[f32], symbols: &mut [f32]) -> u32
 }
 
 #[no_mangle]
-pub extern "C" fn probe_streams(row: &[f32], coherent: &mut [u8], noncoherent: &mut [u8]) -> u32
-    ensures { λ r. ⌜ (r, now (coherent .exit), now (noncoherent .exit)) ≡ demodulated (now (row .entry)) (now (coherent .entry)) (now (noncoherent .entry)) ⌝ }
+pub extern "C" fn probe_streams(
+    row: &[f32],
+    coherent: &mut [u8],
+    noncoherent: &mut [u8],
+    coherent_marks: &mut [u8],
+    noncoherent_marks: &mut [u8],
+) -> u32
+    ensures { λ r. ⌜ (r, now (coherent .exit), now (noncoherent .exit), now («coherent_marks» .exit), now («noncoherent_marks» .exit)) ≡ demodulated (now (row .entry)) (now (coherent .entry), now (noncoherent .entry), now («coherent_marks» .entry), now («noncoherent_marks» .entry)) ⌝ }
 {
-    demodulate(row, coherent, noncoherent)
+    demodulate(
+        row,
+        coherent,
+        noncoherent,
+        coherent_marks,
+        noncoherent_marks,
+    )
+}
+
+fn slicer_by(noncoherent: bool) -> Slicer
+    ensures { λ r. ⌜ r ≡ slicerBy noncoherent ⌝ }
+{
+    if noncoherent {
+        return Slicer::Noncoherent;
+    }
+    Slicer::Coherent
+}
+
+// How many bits of a message were undecided. Refused: 2 a length that no message has.
+#[no_mangle]
+pub extern "C" fn probe_undecided(symbols: &[f32], noncoherent: bool) -> FlatNumber
+    ensures { λ r. ⌜ r ≡ flatNumber (undecidedOf (now (symbols .entry)) (slicerBy noncoherent)) ⌝ }
+{
+    match count_undecided(symbols, slicer_by(noncoherent)) {
+        Undecided::Is(value) => FlatNumber { number: 0, value },
+        Undecided::Refused(number) => FlatNumber { number, value: 0 },
+    }
 }
 
 fn flat(power: Power) -> FlatPower

@@ -1,4 +1,4 @@
-// An answer against the one in a record: that of the long search stands from byte 248 on, that of the short one from byte 312 on.
+// An answer against the one in a record: that of the long search stands from byte 264 on, that of the short one from byte 332 on.
 use crate::record::long_word;
 use crate::record::word;
 use annex10::Repairs;
@@ -18,10 +18,11 @@ struct Fields {
     cn0: f32,
     index: u64,
     fraction: f32,
+    undecided: u32,
 }
 
-fn same_place(r: &[u8; 376], from: usize, p: Place) -> bool
-    requires { ⌜ from ≤ 312 ⌝ }
+fn same_place(r: &[u8; 400], from: usize, p: Place) -> bool
+    requires { ⌜ from ≤ 332 ⌝ }
 {
     if word(r, from + 4) as usize != p.bit {
         return false;
@@ -32,8 +33,8 @@ fn same_place(r: &[u8; 376], from: usize, p: Place) -> bool
     word(r, from + 12) as usize == p.symbol
 }
 
-fn same_words(r: &[u8; 376], from: usize, count: u32, first: u8, second: u8) -> bool
-    requires { ⌜ from ≤ 312 ⌝ }
+fn same_words(r: &[u8; 400], from: usize, count: u32, first: u8, second: u8) -> bool
+    requires { ⌜ from ≤ 332 ⌝ }
 {
     if word(r, from + 16) != count {
         return false;
@@ -44,8 +45,8 @@ fn same_words(r: &[u8; 376], from: usize, count: u32, first: u8, second: u8) -> 
     word(r, from + 24) == second as u32
 }
 
-fn same_repairs(r: &[u8; 376], from: usize, repairs: Repairs) -> bool
-    requires { ⌜ from ≤ 312 ⌝ }
+fn same_repairs(r: &[u8; 400], from: usize, repairs: Repairs) -> bool
+    requires { ⌜ from ≤ 332 ⌝ }
 {
     match repairs {
         Repairs::None => same_words(r, from, 0, 0, 0),
@@ -54,8 +55,8 @@ fn same_repairs(r: &[u8; 376], from: usize, repairs: Repairs) -> bool
     }
 }
 
-fn same_slicer(r: &[u8; 376], from: usize, slicer: Slicer) -> bool
-    requires { ⌜ from ≤ 312 ⌝ }
+fn same_slicer(r: &[u8; 400], from: usize, slicer: Slicer) -> bool
+    requires { ⌜ from ≤ 332 ⌝ }
 {
     match slicer {
         Slicer::Coherent => word(r, from + 28) == 0,
@@ -64,8 +65,8 @@ fn same_slicer(r: &[u8; 376], from: usize, slicer: Slicer) -> bool
 }
 
 // A record has room for 14 bytes.
-fn same_message(r: &[u8; 376], from: usize, message: &[u8]) -> bool
-    requires { ⌜ from ≤ 312 ⌝ }
+fn same_message(r: &[u8; 400], from: usize, message: &[u8]) -> bool
+    requires { ⌜ from ≤ 332 ⌝ }
 {
     if message.len() > 14 {
         return false;
@@ -80,8 +81,8 @@ fn same_message(r: &[u8; 376], from: usize, message: &[u8]) -> bool
 }
 
 // 0 where every field is the same, else the first one that is not, from 1 on.
-fn difference(r: &[u8; 376], from: usize, message: &[u8], a: Fields) -> u32
-    requires { ⌜ from ≤ 312 ⌝ }
+fn difference(r: &[u8; 400], from: usize, message: &[u8], a: Fields) -> u32
+    requires { ⌜ from ≤ 332 ⌝ }
 {
     let place = a.place;
     let repairs = a.repairs;
@@ -110,10 +111,13 @@ fn difference(r: &[u8; 376], from: usize, message: &[u8], a: Fields) -> u32
     if word(r, from + 60) != bits_of(a.fraction) {
         return 8;
     }
+    if word(r, from + 64) != a.undecided {
+        return 9;
+    }
     0
 }
 
-pub fn long_difference(r: &[u8; 376], a: Answer) -> u32 {
+pub fn long_difference(r: &[u8; 400], a: Answer) -> u32 {
     let place = a.place;
     let message = a.message;
     let repairs = a.repairs;
@@ -126,11 +130,12 @@ pub fn long_difference(r: &[u8; 376], a: Answer) -> u32 {
         cn0: a.cn0,
         index: a.index,
         fraction: a.fraction,
+        undecided: a.undecided,
     };
-    difference(r, 248, &message, fields)
+    difference(r, 264, &message, fields)
 }
 
-pub fn short_difference(r: &[u8; 376], a: ShortAnswer) -> u32 {
+pub fn short_difference(r: &[u8; 400], a: ShortAnswer) -> u32 {
     let place = a.place;
     let message = a.message;
     let repairs = a.repairs;
@@ -143,8 +148,9 @@ pub fn short_difference(r: &[u8; 376], a: ShortAnswer) -> u32 {
         cn0: a.cn0,
         index: a.index,
         fraction: a.fraction,
+        undecided: a.undecided,
     };
-    difference(r, 312, &message, fields)
+    difference(r, 332, &message, fields)
 }
 
 pub fn print_field(field: u32) {
@@ -156,7 +162,8 @@ pub fn print_field(field: u32) {
         5 => io::write_all(1, b"slicer"),
         6 => io::write_all(1, b"cn0"),
         7 => io::write_all(1, b"index"),
-        _ => io::write_all(1, b"fraction"),
+        8 => io::write_all(1, b"fraction"),
+        _ => io::write_all(1, b"undecided"),
     }
     ;
 }

@@ -1,5 +1,6 @@
-// Two worked windows, step by step and decoded. The first holds one message without noise. In the second the slicers disagree at one
-// place, so that trial 4 clears the noncoherent bits, fails at their header, and trial 5 has to go back to the coherent bits.
+// Three worked windows, step by step and decoded. The first holds one message without noise. In the second the slicers disagree at one
+// place, so that trial 4 clears the noncoherent bits, fails at their header, and trial 5 has to go back to the coherent bits. The third is
+// the first with five bits of which nothing came in.
 use annex10::Repairs;
 use kernels::slicers::demodulate;
 use kernels::symbols::accumulate_symbols;
@@ -49,6 +50,14 @@ fn show_stream(stream: &[u8], bit: usize) {
             io::print_decimal(STDOUT_FILENO, n as u64);
         }
     }
+}
+
+// The marks of its undecided bits, in the form of a message.
+fn show_marks(marks: &[u8], bit: usize) {
+    let message = extract_message(marks, bit);
+    let bytes = message.bytes;
+    io::write_all(STDOUT_FILENO, b" undecided ");
+    print_message(bytes);
     io::write_all(STDOUT_FILENO, b"\n");
 }
 
@@ -58,10 +67,19 @@ fn show(row: &[f32], bit: usize, symbol: usize)
 {
     let mut coherent = [0u8; 36];
     let mut noncoherent = [0u8; 36];
-    demodulate(row, &mut coherent, &mut noncoherent);
+    let mut coherent_marks = [0u8; 36];
+    let mut noncoherent_marks = [0u8; 36];
+    demodulate(
+        row,
+        &mut coherent,
+        &mut noncoherent,
+        &mut coherent_marks,
+        &mut noncoherent_marks,
+    );
     let from = 18 * symbol;
     let to = from + 18;
     show_stream(&coherent[from..to], bit);
+    show_marks(&coherent_marks[from..to], bit);
 }
 
 // The rows of two phases.
@@ -120,6 +138,15 @@ fn send_both(coherent: &[u8; 14], noncoherent: &[u8; 14], samples: &mut [f32; 23
                 turned_pulse(samples, second);
             }
         }
+    }
+}
+
+// Five bits of which nothing came in.
+fn blank(samples: &mut [f32; 2310], start: usize)
+    requires { ⌜ start < 1116 ⌝ }
+{
+    for m in 0..40 {
+        samples[2 * (start + m)] = 0.0;
     }
 }
 
@@ -184,6 +211,8 @@ fn print_answer(a: Answer) {
     print_floats(a.cn0, a.fraction);
     io::write_all(STDOUT_FILENO, b" index");
     print_word(a.index);
+    io::write_all(STDOUT_FILENO, b" undecided");
+    print_word(a.undecided as u64);
     io::write_all(STDOUT_FILENO, b"\n");
 }
 
@@ -208,4 +237,8 @@ fn main() {
     let mut other = [0.0f32; 2310];
     send_both(&COHERENT, &NONCOHERENT, &mut other);
     show_answer(&other);
+    // Bits 40 to 44 of the message, which are 0.
+    blank(&mut samples, 448);
+    read(&samples);
+    show_answer(&samples);
 }

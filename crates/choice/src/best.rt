@@ -5,7 +5,7 @@ use search::Survivor;
 ghost use mathlib.Core.Path.{_≡_};
 ghost use Rattle.annex10.specs.Repair.{count};
 ghost use Rattle.search.specs.Choice.{beats};
-ghost use Rattle.choice.specs.Chosen.{chosenSurvivor};
+ghost use Rattle.choice.specs.Chosen.{takesOver};
 
 // How many positions are repaired.
 pub fn repairs_of(repairs: Repairs) -> u32
@@ -35,20 +35,17 @@ pub fn displaces(new: Candidate, held: Candidate) -> bool
     false
 }
 
-// The better of what is held and a newcomer, each of which is a candidate where its number is 0, and nothing else.
-pub fn choose(held: Survivor, new: Survivor) -> Survivor
-    ensures { λ r. ⌜ r ≡ chosenSurvivor held new ⌝ }
+// Whether a newcomer takes over from what is held: each of the two is a candidate where its number is 0, and nothing else.
+pub fn takes_over(held: Survivor, new: Survivor) -> bool
+    ensures { λ r. ⌜ r ≡ takesOver held new ⌝ }
 {
     if new.number != 0 {
-        return held;
+        return false;
     }
     if held.number != 0 {
-        return new;
+        return true;
     }
     let h = held.candidate;
     let n = new.candidate;
-    if displaces(n, h) {
-        return new;
-    }
-    held
+    displaces(n, h)
 }

@@ -15,12 +15,12 @@ use Rattle.search.specs.declared.Answer.{Answer}
 use Rattle.search.specs.declared.Tried.{Tried}
 use Rattle.search.specs.declared.Tried.the-variants.{Pass, Fail}
 use Rattle.search.specs.Kinds.{Kind, placesOf}
-use Rattle.search.specs.Window.{Window}
+use Rattle.search.specs.Window.{Window, unmarked}
 use Rattle.search.specs.Seen.{seen}
 use Rattle.search.specs.Trials.{reading}
 use Rattle.search.specs.Choice.{candidate, dropped, survivor, candidateAt, beats, better, scan, best}
 use Rattle.search.specs.Answers.{orNumber, windowNumber, settingsNumber, indexNumber, refusedAnswer, answerOf, answered, decodeOf}
-use Rattle.claims.specs.Stays.{unmarked, unmarkedDecode, uncounted, uncountedReading, uncountedIf, ChoiceStays}
+use Rattle.claims.specs.Stays.{unmarkedDecode, uncounted, uncountedReading, uncountedIf, ChoiceStays}
 
 -- ---- a place
 

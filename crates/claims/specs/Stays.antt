@@ -12,16 +12,12 @@ use Rattle.search.specs.declared.Settings.{Settings}
 use Rattle.search.specs.declared.Candidate.{Candidate}
 use Rattle.search.specs.declared.Answer.{Answer}
 use Rattle.search.specs.Kinds.{Kind}
-use Rattle.search.specs.Window.{Window}
+use Rattle.search.specs.Window.{Window, unmarked}
 use Rattle.search.specs.Seen.{seen}
 use Rattle.search.specs.Choice.{candidateAt, best}
 use Rattle.search.specs.Answers.{orNumber, windowNumber, settingsNumber, indexNumber, refusedAnswer, answered, decodeOf}
 
 -- ---- without marks
-
--- what a search sees of a window in which no bit is marked
-abbrev pub unmarked : Window → Window
-unmarked w = record { bits = w .bits; undecided = λ slicer p. 0; distance = w .distance; prompt = w .prompt; cn0 = w .cn0 }
 
 -- the decode as it is without marks: `decodeOf`, of a search that sees none
 unfoldable pub unmarkedDecode : Kind → List Float → Settings → ℕ → Answer

@@ -7,7 +7,7 @@ use Rattle.choice.proofs.Told.{filteredUntold, filtered-back}
 use Rattle.choice.specs.Filtered.{filteredTold}
 use Rattle.choice.proofs.best.repairs_of as best-repairs-of
 use Rattle.choice.proofs.best.displaces as best-displaces
-use Rattle.choice.proofs.best.choose as best-choose
+use Rattle.choice.proofs.best.takes_over as best-takes-over
 use Rattle.choice.proofs.filter.filter_out_decode_candidate as filter-filter-out-decode-candidate
 use Rattle.choice.proofs.settings.check_settings as settings-check-settings
 use Rattle.choice.proofs.settings.check_index as settings-check-index
@@ -22,9 +22,9 @@ best-displaces-fixed =
     fixes best-displaces.ended _ (answer-set best-displaces.ended) refl (λ κs. refl)
     (λ κs a r e. r) (λ κs a y. (y, (tt, (tt, tt)))) (λ κs a r ws. refl)
 
-pub best-choose-fixed : Fixed best-choose.ended (answer _) (λ M 𝓤 H. best-choose.clauses 𝓤 H) (λ M 𝓤 H. best-choose.spec 𝓤 H)
-best-choose-fixed =
-    fixes best-choose.ended _ (answer-set best-choose.ended) refl (λ κs. refl)
+pub best-takes-over-fixed : Fixed best-takes-over.ended (answer _) (λ M 𝓤 H. best-takes-over.clauses 𝓤 H) (λ M 𝓤 H. best-takes-over.spec 𝓤 H)
+best-takes-over-fixed =
+    fixes best-takes-over.ended _ (answer-set best-takes-over.ended) refl (λ κs. refl)
     (λ κs a r e. r) (λ κs a y. (y, (tt, (tt, tt)))) (λ κs a r ws. refl)
 
 pub filter-filter-out-decode-candidate-fixed : Fixed filter-filter-out-decode-candidate.ended (answer _) (λ M 𝓤 H. filter-filter-out-decode-candidate.clauses 𝓤 H) (λ M 𝓤 H. filter-filter-out-decode-candidate.spec 𝓤 H)

@@ -44,10 +44,9 @@ use Rattle.search.specs.declared.Candidate.{Candidate}
 use Rattle.search.specs.declared.Survivor.{Survivor}
 use Rattle.search.specs.Trials.{reading}
 use Rattle.search.specs.Choice.{candidate, dropped, survivor, candidateAt, scan, best}
-use Rattle.search.specs.Window.{Window}
+use Rattle.search.specs.Window.{Window, unmarked}
 use Rattle.search.specs.Kinds.{Kind, long, short}
 use Rattle.search.specs.Seen.{row, stream, bitsAt, promptAt, noiseAt, windowOf, seen}
-use Rattle.search.proofs.Marks.{by-symbols}
 use Rattle.receiver.specs.Inner.{Scanned, Ready, heldOf, Finds, foundBy, Streams, Known, seenAt}
 use Rattle.receiver.proofs.EitherKind.{Right}
 
@@ -137,7 +136,7 @@ starts m p h =
 
 -- ---- what is seen at the place is what the window has there
 
-module _ (k : Kind) (right : Right k) (samples : List Float) (p : Place) (h : listed (k .last) p ≡ true) where
+module _ (k : Kind) (samples : List Float) (p : Place) where
   abbrev here : Window
   here = seenAt k samples (row samples (p .phase)) (stream samples Coherent p) (stream samples Noncoherent p)
 
@@ -145,29 +144,29 @@ module _ (k : Kind) (right : Right k) (samples : List Float) (p : Place) (h : li
   same-bits Coherent = refl
   same-bits Noncoherent = refl
 
-  same-candidate : (r : Reading) → candidate here p r ≡ candidate (seen k samples) p r
+  same-candidate : (r : Reading) → candidate here p r ≡ candidate (unmarked (seen k samples)) p r
   unfolding candidate seenAt windowOf bitsAt promptAt noiseAt
-  same-candidate r = rw (same-bits (r .slicer), by-symbols samples p (k .bytes) (k .last) (omega (arith, right .last)) h (r .slicer))
+  same-candidate r = rw (same-bits (r .slicer))
 
   same-distance : here .distance p ≡ seen k samples .distance p
   unfolding seenAt windowOf bitsAt
   same-distance = refl
 
-  same-survivor : (s : Settings) (t : Tried) → survivor s here p t ≡ survivor s (seen k samples) p t
+  same-survivor : (s : Settings) (t : Tried) → survivor s here p t ≡ survivor s (unmarked (seen k samples)) p t
   unfolding survivor
   same-survivor s Fail = refl
   same-survivor s (Pass r) =
       ap (λ (c : Candidate). cond (dropped s (here .distance p) c) none (some c)) (same-candidate r)
-      ∙ ap (λ (d : ℕ). cond (dropped s d (candidate (seen k samples) p r)) none (some (candidate (seen k samples) p r))) same-distance
+      ∙ ap (λ (d : ℕ). cond (dropped s d (candidate (unmarked (seen k samples)) p r)) none (some (candidate (unmarked (seen k samples)) p r))) same-distance
 
   same-reading : (level : ℕ) → reading k level (here .bits Coherent p) (here .bits Noncoherent p)
       ≡ reading k level (seen k samples .bits Coherent p) (seen k samples .bits Noncoherent p)
   unfolding seenAt windowOf bitsAt
   same-reading level = refl
 
-  pub seen-there : (s : Settings) → candidateAt k s here p ≡ candidateAt k s (seen k samples) p
+  pub seen-there : (s : Settings) → candidateAt k s here p ≡ candidateAt k s (unmarked (seen k samples)) p
   unfolding candidateAt
-  seen-there s = same-survivor s _ ∙ ap (survivor s (seen k samples) p) (same-reading (min (s .level) (k .most)))
+  seen-there s = same-survivor s _ ∙ ap (survivor s (unmarked (seen k samples)) p) (same-reading (min (s .level) (k .most)))
 
 -- ---- the remainder of a place
 
@@ -200,11 +199,11 @@ module _ (k : Kind) (right : Right k) (samples symbols : List Float) (coherent n
 
   pub lent-read : (s : Settings) (i : ℕ) {x : Survivor} → i ≡ 576
       → x ≡ heldOf k (candidateAt k s (seenAt k samples (take i (drop (576 * p .phase) symbols)) first second) p)
-      → x ≡ heldOf k (candidateAt k s (seen k samples) p)
+      → x ≡ heldOf k (candidateAt k s (unmarked (seen k samples)) p)
   unfolding row
   lent-read s i z e =
       let r : take i (drop (576 * p .phase) symbols) ≡ row samples (p .phase) = rw (z, ready .sums) in
-      e ∙ rw (r, first-is, second-is) (ap (heldOf k) (seen-there k right samples p h s))
+      e ∙ rw (r, first-is, second-is) (ap (heldOf k) (seen-there k samples p s))
 
   pub lent-streams : Streams k first second (p .bit)
   unfolding laneBytes packed

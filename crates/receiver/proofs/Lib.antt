@@ -5,6 +5,7 @@ pub mod Trying
 pub mod Turns
 pub mod Answering
 pub mod Weighing
+pub mod Counted
 pub mod Finding
 pub mod Widening
 pub mod Deciding

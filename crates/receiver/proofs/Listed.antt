@@ -29,7 +29,7 @@ use Rattle.search.specs.declared.Survivor.{Survivor}
 use Rattle.search.specs.Choice.{beats, better, scan}
 use Rattle.search.specs.Kinds.{Kind, long}
 use Rattle.search.specs.Answers.{survivorOf}
-use Rattle.choice.specs.Chosen.{chosenSurvivor}
+use Rattle.choice.specs.Chosen.{takesOver, chosenSurvivor}
 use Rattle.scan.specs.Sieve.{kept, laneOf, onto}
 use Rattle.scan.proofs.Starting.{place-start}
 use Rattle.scan.proofs.Keeping.{below}
@@ -65,7 +65,7 @@ searched f m t list count w z = ap (over f placeAt none) (w .front) ∙ scan-kep
 -- ---- the choice
 
 pub chosen-better : (k : Kind) (h x : Option Candidate) → chosenSurvivor (heldOf k h) (heldOf k x) ≡ heldOf k (better h x)
-unfolding chosenSurvivor beats
+unfolding chosenSurvivor takesOver beats
 chosen-better k none none = refl
 chosen-better k none (some x) = refl
 chosen-better k (some h) none = refl

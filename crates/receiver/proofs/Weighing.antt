@@ -1,5 +1,5 @@
 -- The surviving reading of a place, step by step as the code finds it.
---     candidate-is              a reading with its message, power, cn0 and count
+--     candidate-is              a reading with its message, power and cn0
 --     kept, gone                what the filter leaves
 --     few-kept                  fewer than two repairs are not dropped, whatever the distance
 --     filter-is                 the filter, for settings that are taken
@@ -11,7 +11,7 @@ use mathlib.Core.Bool.{Bool, true, false, _&&_, cond}
 use mathlib.Core.List.{List}
 use mathlib.Core.Logic.{_≢_}
 use mathlib.Core.Option.{none, some}
-use Prim.Native.Nat.{ℕ, _*_, _≤_, min}
+use Prim.Native.Nat.{ℕ, _≤_, min}
 use native.Mathlib.Omega.{arith}
 use native.Mathlib.Decide.{ℕ-discrete}
 use borrow.Author.Tests.{leb-true, ne-eqb}
@@ -25,7 +25,6 @@ use Rattle.annex10.proofs.Positions.{proper-inside}
 use Rattle.place.specs.declared.Place.{Place}
 use Rattle.parts.specs.Part.{symbolsFor, samplesFor, chosen}
 use Rattle.kernels.specs.Powers.{powerOf, noiseOf}
-use Rattle.kernels.specs.Undecided.{undecidedIn}
 use Rattle.streams.specs.Streams.{messageAt}
 use Rattle.cn0.specs.Estimate.{cn0Of}
 use Rattle.search.specs.declared.Settings.{Settings}
@@ -91,14 +90,13 @@ module _ (k : Kind) (w : Right k) (samples row : List Float) (coherent noncohere
   there = seenAt k samples row coherent noncoherent
 
   -- ---- the candidate
-  pub candidate-is : (r : Reading) {message bytes : List ℕ} {prompt noise x : Float} {u : ℕ}
+  pub candidate-is : (r : Reading) {message bytes : List ℕ} {prompt noise x : Float}
       → bytes ≡ repaired (messageAt (chosen (r .slicer) coherent noncoherent) n (p .bit)) (r .repairs) → message ≡ padded k bytes
       → prompt ≡ powerOf n (symbolsFor n row p) bytes → noise ≡ noiseOf n (samplesFor n samples p) bytes → x ≡ cn0Of prompt noise
-      → u ≡ undecidedIn (r .slicer) (symbolsFor n row p) (8 * n)
-      → record { place = p; trial = r .trial; slicer = r .slicer; repairs = r .repairs; message = message; prompt = prompt; cn0 = x; undecided = u }
+      → record { place = p; trial = r .trial; slicer = r .slicer; repairs = r .repairs; message = message; prompt = prompt; cn0 = x; undecided = 0 }
       ≡ wide k (candidate there p r)
   unfolding candidate seenAt
-  candidate-is r eb em ep en ex eu = rw (ex, ep, en, em, eb, eu)
+  candidate-is r eb em ep en ex = rw (ex, ep, en, em, eb)
 
   -- ---- the trials
 

@@ -242,16 +242,35 @@ pub record Known (k : Kind) (level : ℕ) (coherent noncoherent : List ℕ) (bit
   pub second : Finds k level (remainder (messageAt noncoherent (k .bytes) bit)) d
   pub differ : apart ≡ not (eqb (remainder (messageAt coherent (k .bytes) bit)) (remainder (messageAt noncoherent (k .bytes) bit)))
 
--- what is seen at a place, from the row and the streams in which it lies
+-- what is seen at a place, from the row and the streams in which it lies; no bit of it is marked
 unfoldable pub seenAt : Kind → List Float → List Float → List ℕ → List ℕ → Window
 seenAt k samples row coherent noncoherent =
     let n = k .bytes in
     record {
       bits = λ slicer p. messageAt (chosen slicer coherent noncoherent) n (p .bit);
-      undecided = λ slicer p. undecidedIn slicer (symbolsFor n row p) (8 * n);
+      undecided = λ slicer p. 0;
       distance = λ p. differing (messageAt coherent n (p .bit)) (messageAt noncoherent n (p .bit)) (8 * n);
       prompt = λ p message. powerOf n (symbolsFor n row p) message;
       cn0 = λ p message. cn0Of (powerOf n (symbolsFor n row p) message) (noiseOf n (samplesFor n samples p) message);
+    }
+
+-- what is read at a place, with its undecided bits counted from the symbols of all clock phases
+abbrev pub countedIn : Kind → List Float → Place → Survivor → Survivor
+countedIn k symbols p x =
+    let c = x .candidate in
+    record {
+      number = x .number;
+      candidate =
+          record {
+            place = c .place;
+            trial = c .trial;
+            slicer = c .slicer;
+            repairs = c .repairs;
+            message = c .message;
+            prompt = c .prompt;
+            cn0 = c .cn0;
+            undecided = undecidedIn (c .slicer) (symbolsFor (k .bytes) (take 576 (drop (576 * p .phase) symbols)) p) (8 * k .bytes);
+          };
     }
 
 -- a trial counts only where none before it passed

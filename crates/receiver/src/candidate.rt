@@ -4,7 +4,6 @@ use crate::kinds::level_of;
 use crate::message::message_at;
 use crate::powers::both_powers;
 use crate::six::try_six;
-use crate::undecided::undecided_at;
 use annex10::Found;
 use annex10::Repairs;
 use choice::best::repairs_of;
@@ -75,7 +74,7 @@ fn distance_at(coherent: &[u8], noncoherent: &[u8], bit: usize) -> u32
     }
 }
 
-// A reading at a place, with its message, power and cn0, and how many of the bits that were sliced for it were undecided.
+// A reading at a place, with its message, power and cn0. Its undecided bits are counted when it is held.
 fn candidate_of<'a>(
     kind: MessageKind,
     samples: &[f32],
@@ -96,7 +95,6 @@ fn candidate_of<'a>(
     let powers = both_powers(kind, samples, row, place, &message[..bytes]);
     let prompt = powers.prompt;
     let cn0 = estimate_cn0(prompt, powers.noise);
-    let undecided = undecided_at(kind, row, place, slicer);
     Candidate {
         place,
         trial: reading.trial,
@@ -105,7 +103,7 @@ fn candidate_of<'a>(
         message,
         prompt,
         cn0,
-        undecided,
+        undecided: 0,
     }
 }
 

@@ -3,7 +3,8 @@ use crate::candidate::nothing;
 use crate::candidate::read_streams;
 use crate::codes::bit_errors_by;
 use crate::kinds::numbered;
-use choice::best::choose;
+use crate::undecided::counted;
+use choice::best::takes_over;
 use mode_s::message::MessageKind;
 use place::Place;
 use place::Stepped;
@@ -20,8 +21,10 @@ ghost use Rattle.place.specs.All.{listed, placeAt};
 ghost use Rattle.scan.specs.Lanes.{laneBytes};
 ghost use Rattle.search.specs.Choice.{candidateAt};
 ghost use Rattle.search.specs.Seen.{seen};
+ghost use Rattle.search.specs.Window.{unmarked};
+ghost use Rattle.choice.specs.Chosen.{chosenSurvivor};
 ghost use Rattle.search.specs.Answers.{settingsNumber};
-ghost use Rattle.receiver.specs.Inner.{Ready, Finds, kindOf, foundBy, Listing, heldOf, over};
+ghost use Rattle.receiver.specs.Inner.{Ready, Finds, kindOf, foundBy, Listing, heldOf, countedIn, over};
 
 // The stream of a lane.
 fn lane_of(bits: &[u8], lane: usize) -> [u8; 18]
@@ -34,7 +37,7 @@ fn lane_of(bits: &[u8], lane: usize) -> [u8; 18]
 }
 
 // The surviving reading of a place. Its row of symbols is lent and its two streams are made here; c and d are the codes of what clears
-// its two messages.
+// its two messages. Undecided bits are not counted.
 pub fn read_at(
     kind: MessageKind,
     samples: &[f32],
@@ -49,7 +52,7 @@ pub fn read_at(
     place: Place,
 ) -> Survivor
     requires { ⌜ Ready (kindOf kind) (now samples) (now symbols) (now coherent) (now noncoherent) (now crcs) (now others) × (listed (kindOf kind .last) place ≡ true) × (settingsNumber s ≡ 0) × Finds (kindOf kind) (min (s .level) (kindOf kind .most)) (getD (now crcs) (sampleStart place - 8) 0) (foundBy (getD (now crcs) (sampleStart place - 8) 0) c) × Finds (kindOf kind) (min (s .level) (kindOf kind .most)) (getD (now others) (sampleStart place - 8) 0) (foundBy (getD (now others) (sampleStart place - 8) 0) d) ⌝ }
-    ensures { λ r. ⌜ r ≡ heldOf (kindOf kind) (candidateAt (kindOf kind) s (seen (kindOf kind) (now (samples .entry))) place) ⌝ }
+    ensures { λ r. ⌜ r ≡ heldOf (kindOf kind) (candidateAt (kindOf kind) s (unmarked (seen (kindOf kind) (now (samples .entry)))) place) ⌝ }
 {
     let phase = place.phase;
     let lane = 4 * place.symbol + phase;
@@ -85,6 +88,17 @@ fn place_at(kind: MessageKind, k: usize) -> Place
     }
 }
 
+// The better of what is held and a newcomer, whose undecided bits are counted only where it takes over.
+fn hold(kind: MessageKind, symbols: &[f32], place: Place, held: Survivor, new: Survivor) -> Survivor
+    requires { ⌜ (length (now symbols) ≡ 2304) × (listed (kindOf kind .last) place ≡ true) ⌝ }
+    ensures { λ r. ⌜ r ≡ chosenSurvivor held (countedIn (kindOf kind) (now (symbols .entry)) place new) ⌝ }
+{
+    if takes_over(held, new) {
+        return counted(kind, symbols, place, new);
+    }
+    held
+}
+
 // The best of the places in a list.
 pub fn find(
     kind: MessageKind,
@@ -105,6 +119,7 @@ pub fn find(
     let mut held = nothing();
     let mut q: usize = 0;
     while q < count {
+        let place = place_at(kind, list[q] as usize);
         let new = read_at(
             kind,
             samples,
@@ -116,9 +131,9 @@ pub fn find(
             codes[2 * q],
             codes[2 * q + 1],
             s,
-            place_at(kind, list[q] as usize),
+            place,
         );
-        held = choose(held, new);
+        held = hold(kind, symbols, place, held, new);
         q += 1;
     }
     held

@@ -5,6 +5,7 @@ use crate::find::read_at;
 use crate::kinds::bit_errors;
 use crate::kinds::exact_places;
 use crate::kinds::repairable_places;
+use crate::undecided::counted;
 use kernels::symbols::symbols_of_sums;
 use mode_s::message::MessageKind;
 use place::Place;
@@ -341,7 +342,7 @@ fn read_alone(
     bit_errors(kind, s.level, &both, &mut codes);
     let mut symbols = [0.0f32; 2304];
     symbols_of_sums(sums, &mut symbols);
-    read_at(
+    let read = read_at(
         kind,
         samples,
         &symbols,
@@ -353,7 +354,11 @@ fn read_alone(
         codes[1],
         s,
         place,
-    )
+    );
+    if read.number != 0 {
+        return read;
+    }
+    counted(kind, &symbols, place, read)
 }
 
 // The surviving reading of one place, of long messages.

@@ -26,6 +26,10 @@ pub record Window : Type 0 where
   pub prompt : Place → List ℕ → Float
   pub cn0 : Place → List ℕ → Float
 
+-- the same of a window in which no bit is marked
+abbrev pub unmarked : Window → Window
+unmarked w = record { bits = w .bits; undecided = λ slicer p. 0; distance = w .distance; prompt = w .prompt; cn0 = w .cn0 }
+
 -- the bits of a place are as many as a message has
 pub record Sized (kind : Kind) (w : Window) : Type 0 where
   pub size : (slicer : Slicer) (p : Place) → length (w .bits slicer p) ≡ kind .bytes

@@ -40,16 +40,13 @@ both-powers-requires c κs =
 estimate-cn0-requires : tie.Need-estimate-cn0-requires
 estimate-cn0-requires c κs = search needs
 
-undecided-at-requires : tie.Need-undecided-at-requires
-undecided-at-requires c κs = search needs
-
 returns : tie.Need-returns
 returns c =
-    let a = c .before .before .before .before .before .before .before .before .before .before .args in
-    let p = c .before .before .both-powers .ensures in
-    let e = shown (kindOf (a .kind)) (chosen (a .reading .slicer) (a .coherent .now) (a .noncoherent .now)) (a .place .bit) (a .reading .repairs) (c .before .before .before .before .bytes-of .ensures) (c .before .before .before .before .before .message-at .ensures) in
+    let a = c .before .before .before .before .before .before .before .before .before .args in
+    let p = c .before .both-powers .ensures in
+    let e = shown (kindOf (a .kind)) (chosen (a .reading .slicer) (a .coherent .now) (a .noncoherent .now)) (a .place .bit) (a .reading .repairs) (c .before .before .before .bytes-of .ensures) (c .before .before .before .before .message-at .ensures) in
     candidate-is (kindOf (a .kind)) (right (a .kind)) (a .samples .now) (a .row .now) (a .coherent .now) (a .noncoherent .now) (a .place) (a .reading)
-    e (c .before .before .before .before .before .message-at .ensures ∙ rw (← e)) (ap (λ (x : Powers). x .prompt) p) (ap (λ (x : Powers). x .noise) p) (c .before .estimate-cn0 .ensures) (c .undecided-at .ensures)
+    e (c .before .before .before .before .message-at .ensures ∙ rw (← e)) (ap (λ (x : Powers). x .prompt) p) (ap (λ (x : Powers). x .noise) p) (c .estimate-cn0 .ensures)
 
 pub candidate-of-spec : {M : Type 1} → statement M
 candidate-of-spec =
@@ -61,5 +58,4 @@ candidate-of-spec =
     slice-aggregate-both-powers
     both-powers-requires
     estimate-cn0-requires
-    undecided-at-requires
     returns)

@@ -1,14 +1,16 @@
--- `receiver::window::read_alone` meets its contract: what clears the two messages is asked of the tables. Assumes nothing.
-use mathlib.Core.Path.{_≡_, refl}
+-- `receiver::window::read_alone` meets its contract: what clears the two messages is asked of the tables, and what is
+-- read is counted. Assumes nothing.
+use mathlib.Core.Path.{_≡_, refl, ap, _∙_}
 use Prim.Native.Nat.{_+_, _-_, _*_, min}
 use native.Mathlib.Omega.{arith}
-use lib.ListN.{replicate}
+use lib.ListN.{length, replicate}
 use Rattle.place.specs.Step.{sampleStart}
 use Rattle.place.proofs.Within.{listed-gives}
-use Rattle.kernels.proofs.Summing.{symbols-out}
+use Rattle.kernels.proofs.Summing.{symbols-length, symbols-out}
 use Rattle.receiver.specs.Inner.{kindOf}
 use Rattle.receiver.proofs.EitherKind.{right}
 use Rattle.receiver.proofs.Weighing.{level-low}
+use Rattle.receiver.proofs.Counted.{counted-read, counted-none}
 use Rattle.receiver.proofs.Finding.{scanned-sizes}
 use Rattle.receiver.proofs.Repaired.{two-codes, both-asked}
 use borrow.Author.Needs.{needs}
@@ -120,7 +122,25 @@ read-at-requires c κs =
     )
 
 returns : tie.Need-returns
-returns c = search needs
+returns c =
+    let s = c .before .before .before .before .before .before .before .before .before .before .before .before .before .before .before .before .before .before .before .before .before .before in
+    let a = s .args in
+    counted-none (kindOf (a .kind)) (right (a .kind)) (a .samples .now) _ (symbols-out (a .samples .now) _ _ (s .pre .3) refl (c .before .before .before .before .before .symbols-of-sums .ensures)) (a .place) (s .pre .1) (a .s) (c .before .before .read-at .ensures) (c .if1 .taken)
+
+slice-aggregate-counted : tie.Need-slice-aggregate-counted
+slice-aggregate-counted c = search needs
+
+counted-requires : tie.Need-counted-requires
+counted-requires c κs =
+    let s = c .before .before .before .before .before .before .before .before .before .before .before .before .before .before .before .before .before .before .before .before .before .before .before in
+    (ap length (symbols-out (s .args .samples .now) _ _ (s .pre .3) refl (c .before .before .before .before .before .before .symbols-of-sums .ensures)) ∙ symbols-length (s .args .samples .now), s .pre .1)
+
+returns-2 : tie.Need-returns-2
+returns-2 c =
+    let s = c .before .before .before .before .before .before .before .before .before .before .before .before .before .before .before .before .before .before .before .before .before .before .before .before in
+    let a = s .args in
+    c .counted .ensures
+    ∙ counted-read (kindOf (a .kind)) (right (a .kind)) (a .samples .now) _ (symbols-out (a .samples .now) _ _ (s .pre .3) refl (c .before .before .before .before .before .before .before .symbols-of-sums .ensures)) (a .place) (s .pre .1) (a .s) (c .before .before .before .before .read-at .ensures) (c .before .before .if1 .left)
 
 pub read-alone-spec : {M : Type 1} → statement M
 read-alone-spec =
@@ -144,4 +164,7 @@ read-alone-spec =
     array-read-read-at
     array-read-read-at-2
     read-at-requires
-    returns)
+    returns
+    slice-aggregate-counted
+    counted-requires
+    returns-2)

@@ -1,0 +1,101 @@
+-- A reading whose undecided bits are counted when it is held is the reading of the window.
+--     counted-read, counted-none    what is read at a place, counted; or nothing
+--     counted-is                    what the code makes of it
+--     chosen-counted                the choice between what is held and such a newcomer
+--     taken, left                   the ways out of that choice
+-- Assumes nothing.
+use mathlib.Core.Path.{_≡_, refl, sym, ap, _∙_}
+use mathlib.Core.Bool.{Bool, true, false, cond}
+use mathlib.Core.List.{List}
+use mathlib.Core.Logic.{_≢_}
+use mathlib.Core.Option.{none, some}
+use Prim.Native.Nat.{ℕ, _*_, min}
+use native.Mathlib.Decide.{ℕ-discrete}
+use native.Mathlib.Omega.{arith}
+use lib.ListN.{take, drop}
+use lib.Ieee.{Float}
+use Rattle.place.specs.declared.Place.{Place}
+use Rattle.place.specs.declared.Slicer.the-variants.{Coherent, Noncoherent}
+use Rattle.place.specs.All.{listed}
+use Rattle.parts.specs.Part.{symbolsFor}
+use Rattle.kernels.specs.Symbols.{symbolsOf}
+use Rattle.kernels.specs.Undecided.{undecidedIn}
+use Rattle.search.specs.declared.Settings.{Settings}
+use Rattle.search.specs.declared.Tried.{Tried}
+use Rattle.search.specs.declared.Tried.the-variants.{Pass, Fail}
+use Rattle.search.specs.declared.Survivor.{Survivor}
+use Rattle.search.specs.Kinds.{Kind}
+use Rattle.search.specs.Window.{unmarked}
+use Rattle.search.specs.Seen.{row, windowOf, seen}
+use Rattle.search.specs.Trials.{reading}
+use Rattle.search.specs.Choice.{candidate, dropped, survivor, candidateAt, beats}
+use Rattle.search.proofs.Marks.{by-symbols}
+use Rattle.choice.specs.Chosen.{takesOver, chosenSurvivor}
+use Rattle.choice.proofs.Choosing.{no-newcomer, taken-over, kept-on}
+use Rattle.receiver.specs.Inner.{heldOf, countedIn}
+use Rattle.receiver.proofs.EitherKind.{Right}
+
+module _ (k : Kind) (right : Right k) (samples symbols : List Float) (e : symbols ≡ symbolsOf samples) (p : Place) (h : listed (k .last) p ≡ true) (s : Settings) where
+  counted-tried : (t : Tried) {x : Survivor} → x ≡ heldOf k (survivor s (unmarked (seen k samples)) p t) → x .number ≡ 0
+      → countedIn k symbols p x ≡ heldOf k (survivor s (seen k samples) p t)
+  unfolding survivor dropped candidate windowOf row
+  counted-tried Fail f z = absurd (omega (arith, ap (λ (y : Survivor). y .number) f))
+  counted-tried (Pass r) {x} f z = go (dropped s (seen k samples .distance p) (candidate (seen k samples) p r)) f
+    where
+      go : (b : Bool) → x ≡ heldOf k (cond b none (some (candidate (unmarked (seen k samples)) p r)))
+          → countedIn k symbols p x ≡ heldOf k (cond b none (some (candidate (seen k samples) p r)))
+      go true f = absurd (omega (arith, ap (λ (y : Survivor). y .number) f))
+      go false f = rw (f, e, by-symbols samples p (k .bytes) (k .last) (omega (arith, right .last)) h (r .slicer))
+
+  none-tried : (t : Tried) {x : Survivor} → x ≡ heldOf k (survivor s (unmarked (seen k samples)) p t) → x .number ≢ 0
+      → x ≡ heldOf k (survivor s (seen k samples) p t)
+  unfolding survivor dropped candidate windowOf
+  none-tried Fail f z = f
+  none-tried (Pass r) {x} f z = go (dropped s (seen k samples .distance p) (candidate (seen k samples) p r)) f
+    where
+      go : (b : Bool) → x ≡ heldOf k (cond b none (some (candidate (unmarked (seen k samples)) p r)))
+          → x ≡ heldOf k (cond b none (some (candidate (seen k samples) p r)))
+      go true f = f
+      go false f = absurd (z (ap (λ (y : Survivor). y .number) f))
+
+  abbrev tried : Tried
+  tried = reading k (min (s .level) (k .most)) (seen k samples .bits Coherent p) (seen k samples .bits Noncoherent p)
+
+  module _ {x : Survivor} (f : x ≡ heldOf k (candidateAt k s (unmarked (seen k samples)) p)) where
+    pub counted-read : x .number ≡ 0 → countedIn k symbols p x ≡ heldOf k (candidateAt k s (seen k samples) p)
+    unfolding candidateAt
+    counted-read z = counted-tried tried f z
+
+    pub counted-none : x .number ≢ 0 → x ≡ heldOf k (candidateAt k s (seen k samples) p)
+    unfolding candidateAt
+    counted-none z = none-tried tried f z
+
+    pub chosen-counted : (held : Survivor) → chosenSurvivor held (countedIn k symbols p x) ≡ chosenSurvivor held (heldOf k (candidateAt k s (seen k samples) p))
+    chosen-counted held = elim (ℕ-discrete (x .number) 0) [
+      | yes z ↦ ap (chosenSurvivor held) (counted-read z)
+      | no z ↦
+          sym (kept-on held (countedIn k symbols p x) (sym (no-newcomer held (countedIn k symbols p x) z)))
+          ∙ kept-on held x (sym (no-newcomer held x z))
+          ∙ ap (chosenSurvivor held) (counted-none z)
+    ]
+
+-- what the code makes of it: i is 576
+pub counted-is : (k : Kind) (symbols : List Float) (p : Place) (x : Survivor) (i : ℕ) {u : ℕ} → i ≡ 576
+    → u ≡ undecidedIn (x .candidate .slicer) (symbolsFor (k .bytes) (take i (drop (576 * p .phase) symbols)) p) (8 * k .bytes)
+    → (let c = x .candidate in record { number = x .number; candidate = record { place = c .place; trial = c .trial; slicer = c .slicer; repairs = c .repairs; message = c .message; prompt = c .prompt; cn0 = c .cn0; undecided = u } })
+    ≡ countedIn k symbols p x
+counted-is k symbols p x i z e = rw (e, z)
+
+-- ---- the ways out
+
+-- whether it takes over does not depend on its count
+module _ (k : Kind) (symbols : List Float) (p : Place) (held new : Survivor) {b : Bool} (d : b ≡ takesOver held new) where
+  same : takesOver held (countedIn k symbols p new) ≡ b
+  unfolding takesOver beats
+  same = sym d
+
+  pub taken : {r : Survivor} → b ≡ true → r ≡ countedIn k symbols p new → r ≡ chosenSurvivor held (countedIn k symbols p new)
+  taken t e = e ∙ taken-over held (countedIn k symbols p new) (same ∙ t)
+
+  pub left : b ≡ false → held ≡ chosenSurvivor held (countedIn k symbols p new)
+  left t = kept-on held (countedIn k symbols p new) (same ∙ t)

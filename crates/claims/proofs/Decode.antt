@@ -99,11 +99,12 @@ module _ (kind : Kind) (sound : Sound kind) (samples : List Float) (s : Settings
       search-of kind sound samples s .returns c .0 b .1 .undecided
       ∙ heard-of kind sound samples .counted (c .slicer) (c .place) (places-of kind .each (c .place) .0 among)
 
-  received : c .undecided ≡ 0 → (j : ℕ) → j < 8 * kind .bytes → ¬ Named j (c .repairs) → Received samples (answerOf kind samples index c) j
+  received : (j : ℕ) → j < 8 * kind .bytes → coinToss samples (c .slicer) (c .place) j ≡ 0 → ¬ Named j (c .repairs)
+      → Received samples (answerOf kind samples index c) j
   unfolding answerOf slicerBit coinToss
-  received z j h n =
-      heard-well (c .slicer) (firstHalf samples (c .place) j) (secondHalf samples (c .place) j) (like (bitAt (c .message) j) (slicerBit samples (c .slicer) (c .place) j) (λ u. n (differs j h .0 u)))
-      (howMany-none (coinToss samples (c .slicer) (c .place)) (8 * kind .bytes) (sym tossed ∙ z) j h)
+  received j h z n =
+      heard-well (c .slicer) (firstHalf samples (c .place) j) (secondHalf samples (c .place) j)
+      (like (bitAt (c .message) j) (slicerBit samples (c .slicer) (c .place) j) (λ u. n (differs j h .0 u))) z
 
   returned : Returned kind samples s index (answerOf kind samples index c)
   unfolding answerOf windowOf
@@ -116,6 +117,7 @@ module _ (kind : Kind) (sound : Sound kind) (samples : List Float) (s : Settings
         cn0 = f .cn0;
         differs = differs;
         undecided = tossed;
+        none-tossed = λ z. howMany-none (coinToss samples (c .slicer) (c .place)) (8 * kind .bytes) (sym tossed ∙ z);
         received = received;
         only-repair = q .reads-first (c .place) .only (c .slicer) (c .repairs) fitting;
         timed = timed kind samples index c (listed-gives (kind .last) (c .place) (places-of kind .each (c .place) .0 among) .from);

@@ -46,8 +46,9 @@ pub record Returned (kind : Kind) (samples : List Float) (s : Settings) (index :
   pub differs : (j : ℕ) → j < 8 * kind .bytes → (bitAt (a .message) j ≢ slicerBit samples (a .slicer) (a .place) j) ↔ Named j (a .repairs)
   -- Of these bits so many were a coin toss: neither half was strictly greater. A repair takes none of them away.
   pub undecided : a .undecided ≡ howMany (coinToss samples (a .slicer) (a .place)) (8 * kind .bytes)
-  -- Where none was, each bit that is not named was received: the half that it says is strictly greater than the other.
-  pub received : a .undecided ≡ 0 → (j : ℕ) → j < 8 * kind .bytes → ¬ Named j (a .repairs) → Received samples a j
+  pub none-tossed : a .undecided ≡ 0 → (j : ℕ) → j < 8 * kind .bytes → coinToss samples (a .slicer) (a .place) j ≡ 0
+  -- Each other bit that is not named was received: the half that it says is strictly greater than the other.
+  pub received : (j : ℕ) → j < 8 * kind .bytes → coinToss samples (a .slicer) (a .place) j ≡ 0 → ¬ Named j (a .repairs) → Received samples a j
   -- 2. No other choice of at most two different positions clears those bits.
   pub only-repair : OnlyRepair (kind .bytes) (bitsAt (kind .bytes) samples (a .slicer) (a .place)) (a .repairs)
   -- 3. When it came.

@@ -11,7 +11,7 @@ use mathlib.Core.List.{List}
 use Prim.Native.Nat.{ℕ, _+_, _*_, _≤_, _<_}
 use native.Mathlib.Omega.{arith}
 use borrow.Author.Tests.{eq-eqb}
-use lib.ListN.{length, take, drop, length-drop}
+use lib.ListN.{length, drop, length-drop}
 use lib.Seq.{length-take-le}
 use lib.Ieee.{Float}
 use Rattle.lists.specs.Bits.{asBit, bitAt, howMany}
@@ -30,7 +30,7 @@ use Rattle.kernels.specs.Undecided.{undecidedIn}
 use Rattle.kernels.proofs.Slicing.{pair-inside, bit-marked}
 use Rattle.kernels.proofs.Summing.{complex-part, row-symbol, symbols-length}
 use Rattle.streams.proofs.Reading.{message-bit}
-use Rattle.search.specs.Kinds.{Kind, long, short}
+use Rattle.search.specs.Kinds.{long, short}
 use Rattle.search.specs.Seen.{row, marksAt, undecidedAt}
 
 -- ---- bit 143

@@ -1,5 +1,5 @@
 -- `kernels::measure::measure` meets its contract, by cases of the slicer. Assumes nothing.
-use mathlib.Core.Path.{_≡_, _∙_}
+use mathlib.Core.Path.{_≡_}
 use lib.Ieee.{Float}
 use Rattle.math.specs.declared.Complex.{Complex}
 use Rattle.place.specs.declared.Slicer.{Slicer}

@@ -3,39 +3,32 @@
 use mathlib.Core.Path.{_≡_, refl, ap, _∙_}
 use mathlib.Core.Bool.{Bool, true, false, cond}
 use mathlib.Core.List.{List, [], _∷_}
+use mathlib.Core.Logic.{inl, inr}
 use mathlib.Core.Option.{Option, none, some}
-use Prim.Native.Nat.{ℕ, min}
+use Prim.Native.Nat.{ℕ}
 use lib.Dec.{eqb}
 use lib.Ieee.{Float}
 use Rattle.place.specs.declared.Place.{Place}
-use Rattle.place.specs.declared.Slicer.the-variants.{Coherent, Noncoherent}
 use Rattle.search.specs.declared.Settings.{Settings}
 use Rattle.search.specs.declared.Candidate.{Candidate}
 use Rattle.search.specs.declared.Answer.{Answer}
-use Rattle.search.specs.declared.Tried.{Tried}
-use Rattle.search.specs.declared.Tried.the-variants.{Pass, Fail}
 use Rattle.search.specs.Kinds.{Kind, placesOf}
 use Rattle.search.specs.Window.{Window, unmarked}
 use Rattle.search.specs.Seen.{seen}
-use Rattle.search.specs.Trials.{reading}
-use Rattle.search.specs.Choice.{candidate, dropped, survivor, candidateAt, beats, better, scan, best}
+use Rattle.search.specs.Choice.{candidate, candidateAt, beats, better, scan, best}
 use Rattle.search.specs.Answers.{orNumber, windowNumber, settingsNumber, indexNumber, refusedAnswer, answerOf, answered, decodeOf}
+use Rattle.search.proofs.Marks.{Alike, unmarked-alike}
 use Rattle.claims.specs.Stays.{unmarkedDecode, uncounted, uncountedReading, uncountedIf, ChoiceStays}
 
 -- ---- a place
 
-kept : (b : Bool) (c : Candidate) → uncountedIf (cond b none (some c)) ≡ cond b none (some (uncountedReading c))
-kept true c = refl
-kept false c = refl
-
-survives : (s : Settings) (w : Window) (p : Place) (t : Tried) → uncountedIf (survivor s w p t) ≡ survivor s (unmarked w) p t
-unfolding survivor candidate dropped
-survives s w p Fail = refl
-survives s w p (Pass r) = kept (dropped s (w .distance p) (candidate w p r)) (candidate w p r)
-
 place : (kind : Kind) (s : Settings) (w : Window) (p : Place) → uncountedIf (candidateAt kind s w p) ≡ candidateAt kind s (unmarked w) p
-unfolding candidateAt
-place kind s w p = survives s w p (reading kind (min (s .level) (kind .most)) (w .bits Coherent p) (w .bits Noncoherent p))
+unfolding candidate
+place kind s w p = go (unmarked-alike w p kind s)
+  where
+    go : Alike w p (candidateAt kind s (unmarked w) p) (candidateAt kind s w p) → uncountedIf (candidateAt kind s w p) ≡ candidateAt kind s (unmarked w) p
+    go (inl (e, f)) = rw (e, f)
+    go (inr (r, e, f)) = rw (e, f)
 
 -- ---- the search
 

@@ -22,25 +22,18 @@ fn find_measures(row: &[f32], slicer: Slicer, measures: &mut [f32])
     }
 }
 
-// The bits of both streams in turn. The last symbol has none after it.
-fn compare(measures: &[f32], bits: &mut [u8])
-    requires { ⌜ (length (now measures) ≡ 288) × (length (now bits) ≡ 288) ⌝ }
-    ensures { λ _. ⌜ now (bits .exit) ≡ bitsInTurn (now (measures .entry)) ⌝ }
+// The bits of both streams in turn, and their marks. The last symbol has none after it: its bit was never decided.
+fn compare(measures: &[f32], bits: &mut [u8], marks: &mut [u8])
+    requires { ⌜ (length (now measures) ≡ 288) × (length (now bits) ≡ 288) × (length (now marks) ≡ 288) ⌝ }
+    ensures { λ _. ⌜ (now (bits .exit) ≡ bitsInTurn (now (measures .entry))) × (now (marks .exit) ≡ marksInTurn (now (measures .entry))) ⌝ }
 {
     for i in 0..287 {
-        bits[i] = bit_of_pair(measures[i], measures[i + 1]);
+        let first = measures[i];
+        let second = measures[i + 1];
+        bits[i] = bit_of_pair(first, second);
+        marks[i] = mark_of_pair(first, second);
     }
     bits[287] = 0;
-}
-
-// Their marks. The last bit was never decided.
-fn mark(measures: &[f32], marks: &mut [u8])
-    requires { ⌜ (length (now measures) ≡ 288) × (length (now marks) ≡ 288) ⌝ }
-    ensures { λ _. ⌜ now (marks .exit) ≡ marksInTurn (now (measures .entry)) ⌝ }
-{
-    for i in 0..287 {
-        marks[i] = mark_of_pair(measures[i], measures[i + 1]);
-    }
     marks[287] = 1;
 }
 
@@ -86,11 +79,11 @@ fn slice_streams(row: &[f32], slicer: Slicer, out: &mut [u8], out_marks: &mut [u
 {
     let mut measures = [0.0f32; 288];
     let mut bits = [0u8; 288];
+    let mut marks = [0u8; 288];
     find_measures(row, slicer, &mut measures);
-    compare(&measures, &mut bits);
+    compare(&measures, &mut bits, &mut marks);
     pack(&bits, out);
-    mark(&measures, &mut bits);
-    pack(&bits, out_marks);
+    pack(&marks, out_marks);
 }
 
 // Both streams of both slicers, of the symbols of one clock phase, with the marks of their undecided bits. Refused: 2 a row that has not

@@ -5,72 +5,53 @@
 --     taken, left                   the ways out of that choice
 -- Assumes nothing.
 use mathlib.Core.Path.{_≡_, sym, ap, _∙_}
-use mathlib.Core.Bool.{Bool, true, false, cond}
+use mathlib.Core.Bool.{Bool, true, false}
 use mathlib.Core.List.{List}
-use mathlib.Core.Logic.{_≢_}
-use mathlib.Core.Option.{none, some}
-use Prim.Native.Nat.{ℕ, _*_, min}
+use mathlib.Core.Logic.{inl, inr, _≢_}
+use Prim.Native.Nat.{ℕ, _*_}
 use native.Mathlib.Decide.{ℕ-discrete}
 use native.Mathlib.Omega.{arith}
 use lib.ListN.{take, drop}
 use lib.Ieee.{Float}
 use Rattle.place.specs.declared.Place.{Place}
-use Rattle.place.specs.declared.Slicer.the-variants.{Coherent, Noncoherent}
 use Rattle.place.specs.All.{listed}
 use Rattle.parts.specs.Part.{symbolsFor}
 use Rattle.kernels.specs.Symbols.{symbolsOf}
 use Rattle.kernels.specs.Undecided.{undecidedIn}
 use Rattle.search.specs.declared.Settings.{Settings}
-use Rattle.search.specs.declared.Tried.{Tried}
-use Rattle.search.specs.declared.Tried.the-variants.{Pass, Fail}
 use Rattle.search.specs.declared.Survivor.{Survivor}
 use Rattle.search.specs.Kinds.{Kind}
-use Rattle.search.specs.Window.{unmarked}
+use Rattle.search.specs.Window.{Window, unmarked}
 use Rattle.search.specs.Seen.{row, windowOf, seen}
-use Rattle.search.specs.Trials.{reading}
-use Rattle.search.specs.Choice.{candidate, dropped, survivor, candidateAt, beats}
-use Rattle.search.proofs.Marks.{by-symbols}
+use Rattle.search.specs.Choice.{candidate, candidateAt, beats}
+use Rattle.search.proofs.Marks.{by-symbols, Alike, unmarked-alike}
 use Rattle.choice.specs.Chosen.{takesOver, chosenSurvivor}
 use Rattle.choice.proofs.Choosing.{no-newcomer, taken-over, kept-on}
 use Rattle.receiver.specs.Inner.{heldOf, countedIn}
 use Rattle.receiver.proofs.EitherKind.{Right}
 
 module _ (k : Kind) (right : Right k) (samples symbols : List Float) (e : symbols ≡ symbolsOf samples) (p : Place) (h : listed (k .last) p ≡ true) (s : Settings) where
-  counted-tried : (t : Tried) {x : Survivor} → x ≡ heldOf k (survivor s (unmarked (seen k samples)) p t) → x .number ≡ 0
-      → countedIn k symbols p x ≡ heldOf k (survivor s (seen k samples) p t)
-  unfolding survivor dropped candidate windowOf row
-  counted-tried Fail f z = absurd (omega (arith, ap (λ (y : Survivor). y .number) f))
-  counted-tried (Pass r) {x} f z = go (dropped s (seen k samples .distance p) (candidate (seen k samples) p r)) f
-    where
-      go : (b : Bool) → x ≡ heldOf k (cond b none (some (candidate (unmarked (seen k samples)) p r)))
-          → countedIn k symbols p x ≡ heldOf k (cond b none (some (candidate (seen k samples) p r)))
-      go true f = absurd (omega (arith, ap (λ (y : Survivor). y .number) f))
-      go false f = rw (f, e, by-symbols samples p (k .bytes) (k .last) (omega (arith, right .last)) h (r .slicer))
+  abbrev w : Window
+  w = seen k samples
 
-  none-tried : (t : Tried) {x : Survivor} → x ≡ heldOf k (survivor s (unmarked (seen k samples)) p t) → x .number ≢ 0
-      → x ≡ heldOf k (survivor s (seen k samples) p t)
-  unfolding survivor dropped candidate windowOf
-  none-tried Fail f z = f
-  none-tried (Pass r) {x} f z = go (dropped s (seen k samples .distance p) (candidate (seen k samples) p r)) f
-    where
-      go : (b : Bool) → x ≡ heldOf k (cond b none (some (candidate (unmarked (seen k samples)) p r)))
-          → x ≡ heldOf k (cond b none (some (candidate (seen k samples) p r)))
-      go true f = f
-      go false f = absurd (z (ap (λ (y : Survivor). y .number) f))
+  module _ {x : Survivor} (f : x ≡ heldOf k (candidateAt k s (unmarked w) p)) where
+    pub counted-read : x .number ≡ 0 → countedIn k symbols p x ≡ heldOf k (candidateAt k s w p)
+    unfolding candidate windowOf row
+    counted-read z = go (unmarked-alike w p k s)
+      where
+        go : Alike w p (candidateAt k s (unmarked w) p) (candidateAt k s w p) → countedIn k symbols p x ≡ heldOf k (candidateAt k s w p)
+        go (inl (o, o')) = absurd (omega (arith, ap (λ (y : Survivor). y .number) (f ∙ ap (heldOf k) o)))
+        go (inr (r, o, o')) =
+            rw (f ∙ ap (heldOf k) o, o', e, by-symbols samples p (k .bytes) (k .last) (omega (arith, right .last)) h (r .slicer))
 
-  abbrev tried : Tried
-  tried = reading k (min (s .level) (k .most)) (seen k samples .bits Coherent p) (seen k samples .bits Noncoherent p)
+    pub counted-none : x .number ≢ 0 → x ≡ heldOf k (candidateAt k s w p)
+    counted-none z = go (unmarked-alike w p k s)
+      where
+        go : Alike w p (candidateAt k s (unmarked w) p) (candidateAt k s w p) → x ≡ heldOf k (candidateAt k s w p)
+        go (inl (o, o')) = f ∙ rw (o, o')
+        go (inr (r, o, o')) = absurd (z (ap (λ (y : Survivor). y .number) (f ∙ ap (heldOf k) o)))
 
-  module _ {x : Survivor} (f : x ≡ heldOf k (candidateAt k s (unmarked (seen k samples)) p)) where
-    pub counted-read : x .number ≡ 0 → countedIn k symbols p x ≡ heldOf k (candidateAt k s (seen k samples) p)
-    unfolding candidateAt
-    counted-read z = counted-tried tried f z
-
-    pub counted-none : x .number ≢ 0 → x ≡ heldOf k (candidateAt k s (seen k samples) p)
-    unfolding candidateAt
-    counted-none z = none-tried tried f z
-
-    pub chosen-counted : (held : Survivor) → chosenSurvivor held (countedIn k symbols p x) ≡ chosenSurvivor held (heldOf k (candidateAt k s (seen k samples) p))
+    pub chosen-counted : (held : Survivor) → chosenSurvivor held (countedIn k symbols p x) ≡ chosenSurvivor held (heldOf k (candidateAt k s w p))
     chosen-counted held = elim (ℕ-discrete (x .number) 0) [
       | yes z ↦ ap (chosenSurvivor held) (counted-read z)
       | no z ↦

@@ -4,11 +4,14 @@
 --     marks-tossed      a mark says that neither of the two is greater
 --     by-samples        so many of the bits were undecided
 --     by-symbols        so many does `count_undecided` count
+--     unmarked-alike    what survives at a place where no bit is marked is the same reading
 -- Assumes nothing.
 use mathlib.Core.Path.{_≡_, refl, sym, ap, ap₂, _∙_}
-use mathlib.Core.Bool.{Bool, true}
+use mathlib.Core.Bool.{Bool, true, false, cond}
 use mathlib.Core.List.{List}
-use Prim.Native.Nat.{ℕ, _+_, _*_, _≤_, _<_}
+use mathlib.Core.Logic.{_⊎_, inl, inr}
+use mathlib.Core.Option.{Option, none, some}
+use Prim.Native.Nat.{ℕ, _+_, _*_, _≤_, _<_, min}
 use native.Mathlib.Omega.{arith}
 use borrow.Author.Tests.{eq-eqb}
 use lib.ListN.{length, drop, length-drop}
@@ -19,6 +22,7 @@ use Rattle.lists.proofs.Bits.{howMany-same}
 use Rattle.math.specs.declared.Complex.{Complex}
 use Rattle.place.specs.declared.Place.{Place}
 use Rattle.place.specs.declared.Slicer.{Slicer}
+use Rattle.place.specs.declared.Slicer.the-variants.{Coherent, Noncoherent}
 use Rattle.place.specs.Step.{symbolStart, within}
 use Rattle.place.specs.All.{listed}
 use Rattle.place.proofs.Within.{listed-gives, within-is}
@@ -30,7 +34,15 @@ use Rattle.kernels.specs.Undecided.{undecidedIn}
 use Rattle.kernels.proofs.Slicing.{pair-inside, bit-marked}
 use Rattle.kernels.proofs.Summing.{complex-part, row-symbol, symbols-length}
 use Rattle.streams.proofs.Reading.{message-bit}
-use Rattle.search.specs.Kinds.{long, short}
+use Rattle.search.specs.declared.Settings.{Settings}
+use Rattle.search.specs.declared.Reading.{Reading}
+use Rattle.search.specs.declared.Tried.{Tried}
+use Rattle.search.specs.declared.Tried.the-variants.{Pass, Fail}
+use Rattle.search.specs.declared.Candidate.{Candidate}
+use Rattle.search.specs.Kinds.{Kind, long, short}
+use Rattle.search.specs.Window.{Window, unmarked}
+use Rattle.search.specs.Trials.{reading}
+use Rattle.search.specs.Choice.{candidate, dropped, survivor, candidateAt}
 use Rattle.search.specs.Seen.{row, marksAt, undecidedAt}
 
 -- ---- bit 143
@@ -125,3 +137,23 @@ module _ (samples : List Float) (p : Place) where
         let v = in-part (2 * j + 1) (omega arith) ∙ ap (symbolOf samples (p .phase)) a in
         ap₂ (λ (z w : Complex). asBit (undecided slicer z w)) u v)
         ∙ sym by-samples
+
+-- ---- a search that sees no marks
+
+module _ (w : Window) (p : Place) where
+  -- nothing survives of either, or the same reading does
+  abbrev pub Alike : Option Candidate → Option Candidate → Type 0
+  Alike o o' = ((o ≡ none) × (o' ≡ none)) ⊎ ((r : Reading) × (o ≡ some (candidate (unmarked w) p r)) × (o' ≡ some (candidate w p r)))
+
+  survivors-alike : (s : Settings) (t : Tried) → Alike (survivor s (unmarked w) p t) (survivor s w p t)
+  unfolding survivor dropped candidate
+  survivors-alike s Fail = inl (refl, refl)
+  survivors-alike s (Pass r) = go (dropped s (w .distance p) (candidate w p r))
+    where
+      go : (b : Bool) → Alike (cond b none (some (candidate (unmarked w) p r))) (cond b none (some (candidate w p r)))
+      go true = inl (refl, refl)
+      go false = inr (r, refl, refl)
+
+  pub unmarked-alike : (kind : Kind) (s : Settings) → Alike (candidateAt kind s (unmarked w) p) (candidateAt kind s w p)
+  unfolding candidateAt
+  unmarked-alike kind s = survivors-alike s (reading kind (min (s .level) (kind .most)) (w .bits Coherent p) (w .bits Noncoherent p))

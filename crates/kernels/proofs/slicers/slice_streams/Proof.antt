@@ -16,6 +16,9 @@ slice-aggregate-compare c = search needs
 slice-aggregate-compare-2 : tie.Need-slice-aggregate-compare-2
 slice-aggregate-compare-2 c = search needs
 
+slice-aggregate-compare-3 : tie.Need-slice-aggregate-compare-3
+slice-aggregate-compare-3 c = search needs
+
 compare-requires : tie.Need-compare-requires
 compare-requires c κs = search needs
 
@@ -24,15 +27,6 @@ slice-aggregate-pack c = search needs
 
 pack-requires : tie.Need-pack-requires
 pack-requires c κs = search needs
-
-slice-aggregate-mark : tie.Need-slice-aggregate-mark
-slice-aggregate-mark c = search needs
-
-slice-aggregate-mark-2 : tie.Need-slice-aggregate-mark-2
-slice-aggregate-mark-2 c = search needs
-
-mark-requires : tie.Need-mark-requires
-mark-requires c κs = search needs
 
 slice-aggregate-pack-2 : tie.Need-slice-aggregate-pack-2
 slice-aggregate-pack-2 c = search needs
@@ -48,10 +42,10 @@ same-length-2 c = search needs
 
 returns : tie.Need-returns
 returns c =
-    let packed = c .before .before .before .before .before .before .before .before .before .before .before in
-    let compared = packed .before .before .before .before in
-    let measured = compared .before .before .before .before .find-measures .ensures in
-    (streams-are _ _ measured (compared .compare .ensures) (packed .pack .ensures), marks-are _ _ measured (c .before .before .before .before .before .before .mark .ensures) (c .before .before .pack2 .ensures))
+    let packed = c .before .before .before .before .before .before .before in
+    let compared = packed .before .before .before .before .before in
+    let measured = compared .before .before .before .before .before .find-measures .ensures in
+    (streams-are _ _ measured (compared .compare .ensures .0) (packed .pack .ensures), marks-are _ _ measured (compared .compare .ensures .1) (c .before .before .pack2 .ensures))
 
 pub slice-streams-spec : {M : Type 1} → statement M
 slice-streams-spec =
@@ -61,12 +55,10 @@ slice-streams-spec =
     find-measures-requires
     slice-aggregate-compare
     slice-aggregate-compare-2
+    slice-aggregate-compare-3
     compare-requires
     slice-aggregate-pack
     pack-requires
-    slice-aggregate-mark
-    slice-aggregate-mark-2
-    mark-requires
     slice-aggregate-pack-2
     pack-requires-2
     same-length

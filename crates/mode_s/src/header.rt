@@ -1,7 +1,7 @@
 // The header of a message: its first byte, with the repairs that fall into it, and whose address follows it.
-use crate::inside::lie_inside;
 use annex10::AddressKind;
 use annex10::Repairs;
+use annex10::lie_inside;
 ghost use mathlib.Core.Path.{_≡_};
 ghost use mathlib.Core.Bool.{cond};
 ghost use Prim.Native.Nat.{_<_};

@@ -3,6 +3,5 @@ pub mod avr;
 pub mod bytes;
 pub mod crc;
 pub mod header;
-mod inside;
 pub mod message;
 pub mod repair;

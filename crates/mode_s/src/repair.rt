@@ -1,7 +1,7 @@
 // A message repaired in place.
-use crate::inside::lie_inside;
 use annex10::Repairs;
 use annex10::is_message;
+use annex10::lie_inside;
 ghost use mathlib.Core.Path.{_≡_};
 ghost use Rattle.annex10.specs.Flip.{flip};
 ghost use Rattle.annex10.specs.Repair.{repaired};

@@ -1,4 +1,6 @@
 // Where a reading lies in a window, and who read its bits.
+pub mod location;
+
 ghost use mathlib.Core.Path.{_≡_};
 ghost use Rattle.place.specs.Step.{startsBy, within, steppedTold, earlierBy, laterBy, earlierOf, laterOf};
 ghost use Rattle.place.specs.All.{listed, placeBelow, listedAt};

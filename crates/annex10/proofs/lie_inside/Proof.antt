@@ -1,8 +1,8 @@
--- `mode_s::inside::lie_inside` meets its contract, position by position.
+-- `annex10::lie_inside` meets its contract, position by position.
 -- Assumes nothing.
 use borrow.Author.Needs.{needs}
-use Rattle.mode_s.proofs.inside.lie_inside.Statement.{statement}
-use Rattle.mode_s.proofs.inside.lie_inside.Tie as tie
+use Rattle.annex10.proofs.lie_inside.Statement.{statement}
+use Rattle.annex10.proofs.lie_inside.Tie as tie
 
 enum-told : tie.Need-enum-told
 enum-told c = search needs

@@ -13,7 +13,7 @@ use Rattle.search.specs.declared.Candidate.{Candidate}
 use Rattle.search.specs.declared.Settings.{Settings}
 use Rattle.search.specs.Choice.{dropped}
 
-module _ (s : Settings) (differing : ℕ) (c : Candidate) {n : ℕ} (p : n ≡ count (c .repairs)) where
+module _ (s : Settings) (differing : ℕ) (c : Candidate) {n : ℕ} (p : n ≡ count (c .location .repairs)) where
   pub not-two : n ≢ 2 → false ≡ dropped s differing c
   unfolding dropped
   not-two e = rw (← p, ne-eqb n 2 e)
@@ -23,15 +23,15 @@ module _ (s : Settings) (differing : ℕ) (c : Candidate) {n : ℕ} (p : n ≡ c
     unfolding dropped
     weak l = rw (← p, eq-eqb n 2 e, l)
 
-    pub coherent : lt (c .cn0) (s .threshold) ≡ false → c .slicer ≡ Coherent → false ≡ dropped s differing c
+    pub coherent : lt (c .cn0) (s .threshold) ≡ false → c .location .slicer ≡ Coherent → false ≡ dropped s differing c
     unfolding dropped
     coherent l k = rw (← p, eq-eqb n 2 e, l, k)
 
-    pub doubtful : lt (c .cn0) (s .threshold) ≡ false → c .slicer ≡ Noncoherent → lt (c .cn0) (s .second) ≡ true
+    pub doubtful : lt (c .cn0) (s .threshold) ≡ false → c .location .slicer ≡ Noncoherent → lt (c .cn0) (s .second) ≡ true
         → leb (s .distance) differing ≡ dropped s differing c
     unfolding dropped
     doubtful l k m = rw (← p, eq-eqb n 2 e, l, k, m)
 
-    pub strong : lt (c .cn0) (s .threshold) ≡ false → c .slicer ≡ Noncoherent → lt (c .cn0) (s .second) ≡ false → false ≡ dropped s differing c
+    pub strong : lt (c .cn0) (s .threshold) ≡ false → c .location .slicer ≡ Noncoherent → lt (c .cn0) (s .second) ≡ false → false ≡ dropped s differing c
     unfolding dropped
     strong l k m = rw (← p, eq-eqb n 2 e, l, k, m)

@@ -1,2 +1,1 @@
 pub mod Filtered
-pub mod Chosen

@@ -1,6 +1,6 @@
--- Parts for a message of n bytes at a place. Where a part is refused it is empty, and the number says why.
+-- Parts for a message of n bytes at a location. Where a part is refused it is empty, and the number says why.
 -- Assumes nothing.
-use mathlib.Core.Bool.{Bool, cond}
+use mathlib.Core.Bool.{cond}
 use mathlib.Core.List.{List, []}
 use Prim.Native.Nat.{ℕ, _+_, _-_, _*_, _/_, _%_}
 use lib.Dec.{eqb, leb}
@@ -10,33 +10,40 @@ use Rattle.lists.specs.Told.{Told, done, refused, tell}
 use Rattle.place.specs.declared.Place.{Place}
 use Rattle.place.specs.declared.Slicer.{Slicer}
 use Rattle.place.specs.declared.Slicer.the-variants.{Coherent, Noncoherent}
-use Rattle.place.specs.Step.{symbolStart, sampleStart, within}
+use Rattle.place.specs.declared.location.Location.{Location}
+use Rattle.place.specs.Step.{symbolStart, sampleStart}
+use Rattle.place.specs.Agrees.{locationNumber}
 use Rattle.parts.specs.declared.PartSize.{PartSize}
 use Rattle.parts.specs.declared.PartSize.the-variants.{Is, Refused}
 
--- 2 unless there are so many numbers, 7 unless the message ends within the window
-abbrev pub refusalOf : ℕ → Bool → List Float → ℕ
-refusalOf size ends xs = cond (eqb (length xs) size) (cond ends 0 7) 2
+-- the two numbers of each of the 16 * n symbols from a place on, of a row of 288
+unfoldable pub symbolsAt : ℕ → List Float → Place → List Float
+symbolsAt n row p = take (32 * n) (drop (2 * symbolStart p) row)
 
-unfoldable pub rowRefusal : ℕ → ℕ → List Float → Place → ℕ
-rowRefusal size n xs p = refusalOf size (within n p) xs
+-- the two numbers of each of the 64 * n samples from a place on, of a window of 1,155
+unfoldable pub samplesAt : ℕ → List Float → Place → List Float
+samplesAt n window p = take (128 * n) (drop (2 * sampleStart p) window)
 
--- the two numbers of each of the 16 * n symbols, of a row of 288
-unfoldable pub symbolsFor : ℕ → List Float → Place → List Float
-symbolsFor n row p = cond (eqb (rowRefusal 576 n row p) 0) (take (32 * n) (drop (2 * symbolStart p) row)) []
+-- 2 unless there are so many numbers, then what is refused of the location
+abbrev pub numberOf : ℕ → ℕ → List Float → ℕ
+numberOf size number xs = cond (eqb (length xs) size) number 2
 
--- the two numbers of each of the 64 * n samples, of a window of 1,155
-unfoldable pub samplesFor : ℕ → List Float → Place → List Float
-samplesFor n window p = cond (eqb (rowRefusal 2310 n window p) 0) (take (128 * n) (drop (2 * sampleStart p) window)) []
+unfoldable pub rowRefusal : ℕ → ℕ → List Float → Location → ℕ
+rowRefusal size n xs l = numberOf size (locationNumber n l) xs
 
--- 2 unless both streams have 18 bytes, 7 unless the bit offset is at most `last`
-abbrev pub refusalTo : ℕ → List ℕ → List ℕ → ℕ → ℕ
-refusalTo last coherent noncoherent bit =
-    cond (eqb (length coherent) 18) (cond (eqb (length noncoherent) 18) (cond (leb bit last) 0 7) 2) 2
+-- the symbols and the samples of a location
+unfoldable pub symbolsFor : ℕ → List Float → Location → List Float
+symbolsFor n row l = cond (eqb (rowRefusal 576 n row l) 0) (symbolsAt n row (l .place)) []
 
--- the same where the message has to end within the streams: a bit offset is 0 to 32 for 14 bytes, 0 to 88 for 7
-unfoldable pub streamsRefusal : ℕ → List ℕ → List ℕ → ℕ → ℕ
-streamsRefusal n coherent noncoherent bit = refusalTo (144 - 8 * n) coherent noncoherent bit
+unfoldable pub samplesFor : ℕ → List Float → Location → List Float
+samplesFor n window l = cond (eqb (rowRefusal 2310 n window l) 0) (samplesAt n window (l .place)) []
+
+-- 2 unless both streams have 18 bytes, then what is refused of the location
+abbrev pub streamsNumber : ℕ → List ℕ → List ℕ → ℕ
+streamsNumber number coherent noncoherent = cond (eqb (length coherent) 18) (cond (eqb (length noncoherent) 18) number 2) 2
+
+unfoldable pub streamsRefusal : ℕ → List ℕ → List ℕ → Location → ℕ
+streamsRefusal n coherent noncoherent l = streamsNumber (locationNumber n l) coherent noncoherent
 
 -- the stream that the slicer names
 abbrev pub chosen : {A : Type 0} → Slicer → A → A → A
@@ -60,8 +67,9 @@ unfoldable pub sizeAt : ℕ → ℕ → Told ℕ
 sizeAt n bit = sizeTo (144 - 8 * n) n bit
 
 -- the bytes of the named stream that hold the message's bits
-unfoldable pub slicerPart : ℕ → List ℕ → List ℕ → ℕ → Slicer → List ℕ
-slicerPart n coherent noncoherent bit slicer =
-    cond (eqb (streamsRefusal n coherent noncoherent bit) 0)
-    (take (partSize n bit) (drop (bit / 8) (chosen slicer coherent noncoherent)))
+unfoldable pub slicerPart : ℕ → List ℕ → List ℕ → Location → List ℕ
+slicerPart n coherent noncoherent l =
+    let bit = l .place .bit in
+    cond (eqb (streamsRefusal n coherent noncoherent l) 0)
+    (take (partSize n bit) (drop (bit / 8) (chosen (l .slicer) coherent noncoherent)))
     []

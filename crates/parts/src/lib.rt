@@ -1,10 +1,11 @@
-// Parts for a place, lent from what the caller lends. A part that is refused is empty; beside each part stands its refusal's number.
+// Parts for a location, lent from what the caller lends. A part that is refused is empty; beside each part stands its refusal's number.
 // The functions named `short` are for messages of 7 bytes, the others for those of 14.
 use place::Place;
 use place::Slicer;
+use place::location::Location;
 ghost use mathlib.Core.Path.{_≡_};
 ghost use Prim.Native.Nat.{_≤_};
-ghost use Rattle.parts.specs.Part.{refusalOf, rowRefusal, symbolsFor, samplesFor, refusalTo, streamsRefusal, partSize, sizeTold, sizeTo, sizeAt, slicerPart};
+ghost use Rattle.parts.specs.Part.{rowRefusal, numberOf, symbolsFor, samplesFor, streamsNumber, streamsRefusal, partSize, sizeTold, sizeTo, sizeAt, slicerPart};
 
 // How many bytes, or the refusal's number.
 pub enum PartSize {
@@ -12,37 +13,35 @@ pub enum PartSize {
     Refused(u32),
 }
 
-// So many numbers, and whether the message ends within the window.
-fn refusal_of(numbers: &[f32], size: usize, ends: bool) -> u32
-    ensures { λ r. ⌜ r ≡ refusalOf size ends (now (numbers .entry)) ⌝ }
+// So many numbers, and what is refused of the location.
+fn refusal_of(numbers: &[f32], size: usize, location: u32) -> u32
+    ensures { λ r. ⌜ r ≡ numberOf size location (now (numbers .entry)) ⌝ }
 {
     if numbers.len() != size {
         return 2;
     }
-    if !ends {
-        return 7;
-    }
-    0
+    location
 }
 
 // The row of symbols of one clock phase: 288 symbols, two numbers each.
-pub fn symbols_refusal(row: &[f32], place: Place) -> u32
-    ensures { λ r. ⌜ r ≡ rowRefusal 576 14 (now (row .entry)) place ⌝ }
+pub fn symbols_refusal(row: &[f32], location: Location) -> u32
+    ensures { λ r. ⌜ r ≡ rowRefusal 576 14 (now (row .entry)) location ⌝ }
 {
-    refusal_of(row, 576, place.is_within())
+    refusal_of(row, 576, location.refusal())
 }
 
-pub fn symbols_refusal_short(row: &[f32], place: Place) -> u32
-    ensures { λ r. ⌜ r ≡ rowRefusal 576 7 (now (row .entry)) place ⌝ }
+pub fn symbols_refusal_short(row: &[f32], location: Location) -> u32
+    ensures { λ r. ⌜ r ≡ rowRefusal 576 7 (now (row .entry)) location ⌝ }
 {
-    refusal_of(row, 576, place.is_within_short())
+    refusal_of(row, 576, location.refusal_short())
 }
 
 // The symbols of a message of so many bytes, from its symbol start.
-fn symbols_of(row: &[f32], place: Place, bytes: usize, number: u32) -> &[f32]
-    requires { ⌜ (bytes ≤ 18) × (number ≡ rowRefusal 576 bytes (now row) place) ⌝ }
-    ensures { λ r. ⌜ now r ≡ symbolsFor bytes (now (row .entry)) place ⌝ }
+fn symbols_of(row: &[f32], location: Location, bytes: usize, number: u32) -> &[f32]
+    requires { ⌜ (bytes ≤ 18) × (number ≡ rowRefusal 576 bytes (now row) location) ⌝ }
+    ensures { λ r. ⌜ now r ≡ symbolsFor bytes (now (row .entry)) location ⌝ }
 {
+    let place = location.place;
     let bit = place.bit;
     let symbol = place.symbol;
     if number != 0 {
@@ -53,37 +52,38 @@ fn symbols_of(row: &[f32], place: Place, bytes: usize, number: u32) -> &[f32]
 }
 
 // The 224 symbols of a message.
-pub fn symbols_for_place(row: &[f32], place: Place) -> &[f32]
-    ensures { λ r. ⌜ now r ≡ symbolsFor 14 (now (row .entry)) place ⌝ }
+pub fn symbols_for_location(row: &[f32], location: Location) -> &[f32]
+    ensures { λ r. ⌜ now r ≡ symbolsFor 14 (now (row .entry)) location ⌝ }
 {
-    symbols_of(row, place, 14, symbols_refusal(row, place))
+    symbols_of(row, location, 14, symbols_refusal(row, location))
 }
 
 // The 112 symbols of a short message.
-pub fn symbols_for_place_short(row: &[f32], place: Place) -> &[f32]
-    ensures { λ r. ⌜ now r ≡ symbolsFor 7 (now (row .entry)) place ⌝ }
+pub fn symbols_for_location_short(row: &[f32], location: Location) -> &[f32]
+    ensures { λ r. ⌜ now r ≡ symbolsFor 7 (now (row .entry)) location ⌝ }
 {
-    symbols_of(row, place, 7, symbols_refusal_short(row, place))
+    symbols_of(row, location, 7, symbols_refusal_short(row, location))
 }
 
 // The window: 1,155 samples, two numbers each.
-pub fn samples_refusal(window: &[f32], place: Place) -> u32
-    ensures { λ r. ⌜ r ≡ rowRefusal 2310 14 (now (window .entry)) place ⌝ }
+pub fn samples_refusal(window: &[f32], location: Location) -> u32
+    ensures { λ r. ⌜ r ≡ rowRefusal 2310 14 (now (window .entry)) location ⌝ }
 {
-    refusal_of(window, 2310, place.is_within())
+    refusal_of(window, 2310, location.refusal())
 }
 
-pub fn samples_refusal_short(window: &[f32], place: Place) -> u32
-    ensures { λ r. ⌜ r ≡ rowRefusal 2310 7 (now (window .entry)) place ⌝ }
+pub fn samples_refusal_short(window: &[f32], location: Location) -> u32
+    ensures { λ r. ⌜ r ≡ rowRefusal 2310 7 (now (window .entry)) location ⌝ }
 {
-    refusal_of(window, 2310, place.is_within_short())
+    refusal_of(window, 2310, location.refusal_short())
 }
 
 // The samples of a message of so many bytes, from its sample start.
-fn samples_of(window: &[f32], place: Place, bytes: usize, number: u32) -> &[f32]
-    requires { ⌜ (bytes ≤ 18) × (number ≡ rowRefusal 2310 bytes (now window) place) ⌝ }
-    ensures { λ r. ⌜ now r ≡ samplesFor bytes (now (window .entry)) place ⌝ }
+fn samples_of(window: &[f32], location: Location, bytes: usize, number: u32) -> &[f32]
+    requires { ⌜ (bytes ≤ 18) × (number ≡ rowRefusal 2310 bytes (now window) location) ⌝ }
+    ensures { λ r. ⌜ now r ≡ samplesFor bytes (now (window .entry)) location ⌝ }
 {
+    let place = location.place;
     let bit = place.bit;
     let phase = place.phase;
     let symbol = place.symbol;
@@ -95,22 +95,22 @@ fn samples_of(window: &[f32], place: Place, bytes: usize, number: u32) -> &[f32]
 }
 
 // The 896 samples of a message.
-pub fn samples_for_place(window: &[f32], place: Place) -> &[f32]
-    ensures { λ r. ⌜ now r ≡ samplesFor 14 (now (window .entry)) place ⌝ }
+pub fn samples_for_location(window: &[f32], location: Location) -> &[f32]
+    ensures { λ r. ⌜ now r ≡ samplesFor 14 (now (window .entry)) location ⌝ }
 {
-    samples_of(window, place, 14, samples_refusal(window, place))
+    samples_of(window, location, 14, samples_refusal(window, location))
 }
 
 // The 448 samples of a short message.
-pub fn samples_for_place_short(window: &[f32], place: Place) -> &[f32]
-    ensures { λ r. ⌜ now r ≡ samplesFor 7 (now (window .entry)) place ⌝ }
+pub fn samples_for_location_short(window: &[f32], location: Location) -> &[f32]
+    ensures { λ r. ⌜ now r ≡ samplesFor 7 (now (window .entry)) location ⌝ }
 {
-    samples_of(window, place, 7, samples_refusal_short(window, place))
+    samples_of(window, location, 7, samples_refusal_short(window, location))
 }
 
-// The two streams of 18 bytes, and the bit offset in them.
-fn refusal_to(last: usize, coherent: &[u8], noncoherent: &[u8], bit: usize) -> u32
-    ensures { λ r. ⌜ r ≡ refusalTo last (now (coherent .entry)) (now (noncoherent .entry)) bit ⌝ }
+// The two streams of 18 bytes, and what is refused of the location.
+fn refusal_to(coherent: &[u8], noncoherent: &[u8], location: u32) -> u32
+    ensures { λ r. ⌜ r ≡ streamsNumber location (now (coherent .entry)) (now (noncoherent .entry)) ⌝ }
 {
     if coherent.len() != 18 {
         return 2;
@@ -118,22 +118,19 @@ fn refusal_to(last: usize, coherent: &[u8], noncoherent: &[u8], bit: usize) -> u
     if noncoherent.len() != 18 {
         return 2;
     }
-    if bit > last {
-        return 7;
-    }
-    0
+    location
 }
 
-pub fn slicer_refusal(coherent: &[u8], noncoherent: &[u8], bit: usize) -> u32
-    ensures { λ r. ⌜ r ≡ streamsRefusal 14 (now (coherent .entry)) (now (noncoherent .entry)) bit ⌝ }
+pub fn slicer_refusal(coherent: &[u8], noncoherent: &[u8], location: Location) -> u32
+    ensures { λ r. ⌜ r ≡ streamsRefusal 14 (now (coherent .entry)) (now (noncoherent .entry)) location ⌝ }
 {
-    refusal_to(Place::BIT_MAX, coherent, noncoherent, bit)
+    refusal_to(coherent, noncoherent, location.refusal())
 }
 
-pub fn slicer_refusal_short(coherent: &[u8], noncoherent: &[u8], bit: usize) -> u32
-    ensures { λ r. ⌜ r ≡ streamsRefusal 7 (now (coherent .entry)) (now (noncoherent .entry)) bit ⌝ }
+pub fn slicer_refusal_short(coherent: &[u8], noncoherent: &[u8], location: Location) -> u32
+    ensures { λ r. ⌜ r ≡ streamsRefusal 7 (now (coherent .entry)) (now (noncoherent .entry)) location ⌝ }
 {
-    refusal_to(Place::SHORT_BIT_MAX, coherent, noncoherent, bit)
+    refusal_to(coherent, noncoherent, location.refusal_short())
 }
 
 // How many bytes hold the bits of a message of so many bytes from a bit offset on.
@@ -168,18 +165,20 @@ pub fn part_size_short(bit: usize) -> PartSize
     size_to(Place::SHORT_BIT_MAX, 7, bit)
 }
 
-// The bytes of the named slicer's stream that hold the bits of a message of so many bytes from a bit offset on.
+// The bytes of the named slicer's stream that hold the bits of a message of so many bytes.
 fn part_of<'a>(
     coherent: &'a [u8],
     noncoherent: &'a [u8],
-    bit: usize,
-    slicer: Slicer,
+    location: Location,
     bytes: usize,
     number: u32,
 ) -> &'a [u8]
-    requires { ⌜ (bytes ≤ 18) × (number ≡ streamsRefusal bytes (now coherent) (now noncoherent) bit) ⌝ }
-    ensures { λ r. ⌜ now r ≡ slicerPart bytes (now (coherent .entry)) (now (noncoherent .entry)) bit slicer ⌝ }
+    requires { ⌜ (bytes ≤ 18) × (number ≡ streamsRefusal bytes (now coherent) (now noncoherent) location) ⌝ }
+    ensures { λ r. ⌜ now r ≡ slicerPart bytes (now (coherent .entry)) (now (noncoherent .entry)) location ⌝ }
 {
+    let place = location.place;
+    let slicer = location.slicer;
+    let bit = place.bit;
     if number != 0 {
         return &coherent[..0];
     }
@@ -192,21 +191,15 @@ fn part_of<'a>(
 }
 
 // Of 112 bits.
-pub fn slicer_part<'a>(
-    coherent: &'a [u8],
-    noncoherent: &'a [u8],
-    bit: usize,
-    slicer: Slicer,
-) -> &'a [u8]
-    ensures { λ r. ⌜ now r ≡ slicerPart 14 (now (coherent .entry)) (now (noncoherent .entry)) bit slicer ⌝ }
+pub fn slicer_part<'a>(coherent: &'a [u8], noncoherent: &'a [u8], location: Location) -> &'a [u8]
+    ensures { λ r. ⌜ now r ≡ slicerPart 14 (now (coherent .entry)) (now (noncoherent .entry)) location ⌝ }
 {
     part_of(
         coherent,
         noncoherent,
-        bit,
-        slicer,
+        location,
         14,
-        slicer_refusal(coherent, noncoherent, bit),
+        slicer_refusal(coherent, noncoherent, location),
     )
 }
 
@@ -214,17 +207,15 @@ pub fn slicer_part<'a>(
 pub fn slicer_part_short<'a>(
     coherent: &'a [u8],
     noncoherent: &'a [u8],
-    bit: usize,
-    slicer: Slicer,
+    location: Location,
 ) -> &'a [u8]
-    ensures { λ r. ⌜ now r ≡ slicerPart 7 (now (coherent .entry)) (now (noncoherent .entry)) bit slicer ⌝ }
+    ensures { λ r. ⌜ now r ≡ slicerPart 7 (now (coherent .entry)) (now (noncoherent .entry)) location ⌝ }
 {
     part_of(
         coherent,
         noncoherent,
-        bit,
-        slicer,
+        location,
         7,
-        slicer_refusal_short(coherent, noncoherent, bit),
+        slicer_refusal_short(coherent, noncoherent, location),
     )
 }

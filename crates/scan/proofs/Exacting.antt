@@ -23,6 +23,7 @@ use Rattle.annex10.specs.Header.{longHeader, shortHeader}
 use Rattle.annex10.specs.Remainder.{remainder}
 use Rattle.annex10.specs.Repair.{repaired, fitting, clearing}
 use Rattle.annex10.proofs.Repairing.{pattern-none}
+use Rattle.place.specs.declared.Place.{Place}
 use Rattle.place.specs.declared.Slicer.{Slicer}
 use Rattle.place.specs.declared.Slicer.the-variants.{Coherent, Noncoherent}
 use Rattle.place.specs.All.{placeAt}
@@ -76,9 +77,9 @@ message-bit n bits p j d h = bitAt-packed (λ (i : ℕ). getD bits (p + 8 * i) 0
 
 module _ (kind : Kind) (lead : ℕ) (led : Led kind lead) where
   -- a message without repairs is taken where its remainder is 0 and its header is one of those that are taken
-  trial-fails : (number : ℕ) (slicer : Slicer) (b : List ℕ) → (remainder b ≡ 0 → bitAt b lead ≡ 0) → checked kind number slicer b (cleared kind b 0) ≡ Fail
+  trial-fails : (p : Place) (number : ℕ) (slicer : Slicer) (b : List ℕ) → (remainder b ≡ 0 → bitAt b lead ≡ 0) → checked kind p number slicer b (cleared kind b 0) ≡ Fail
   unfolding checked cleared clearing fitting repaired
-  trial-fails number slicer b h =
+  trial-fails p number slicer b h =
       elim (ℕ-discrete (remainder b) 0) [
         | yes clean ↦ rw (pattern-none (kind .bytes), clean, led .clear b (h clean))
         | no other ↦ rw (pattern-none (kind .bytes), ne-eqb 0 (remainder b) (λ e. other (sym e)))
@@ -102,13 +103,13 @@ module _ (kind : Kind) (lead : ℕ) (led : Led kind lead) where
         ∙ not-one x (d .each (8 + laneOf k + 8 * lead)) t
 
     pub left-out : exact lead (bitsFrom Coherent s) (bitsFrom Noncoherent s) (crcs Coherent) (crcs Noncoherent) k ≡ false
-        → reading kind 0 (bitsAt (kind .bytes) s Coherent (placeAt k)) (bitsAt (kind .bytes) s Noncoherent (placeAt k)) ≡ Fail
+        → reading kind 0 (placeAt k) (bitsAt (kind .bytes) s Coherent (placeAt k)) (bitsAt (kind .bytes) s Noncoherent (placeAt k)) ≡ Fail
     unfolding exact reading trials sixTrials given
     left-out e =
         let (a, b) = or-none (cleanAt lead (bitsFrom Coherent s) (crcs Coherent) (laneOf k)) (cleanAt lead (bitsFrom Noncoherent s) (crcs Noncoherent) (laneOf k)) e in
         rw (
-          trial-fails 1 Coherent (bitsAt (kind .bytes) s Coherent (placeAt k)) (unclean Coherent a),
-          trial-fails 2 Noncoherent (bitsAt (kind .bytes) s Noncoherent (placeAt k)) (unclean Noncoherent b),
+          trial-fails (placeAt k) 1 Coherent (bitsAt (kind .bytes) s Coherent (placeAt k)) (unclean Coherent a),
+          trial-fails (placeAt k) 2 Noncoherent (bitsAt (kind .bytes) s Noncoherent (placeAt k)) (unclean Noncoherent b),
         )
 
     pub no-candidate : (settings : Settings) → settings .level ≡ 0
@@ -118,5 +119,5 @@ module _ (kind : Kind) (lead : ℕ) (led : Led kind lead) where
     no-candidate settings l e =
         let w = windowOf (kind .bytes) s in
         let p = placeAt k in
-        let read : ℕ → Option Candidate = λ (level : ℕ). survivor settings w p (reading kind level (bitsAt (kind .bytes) s Coherent p) (bitsAt (kind .bytes) s Noncoherent p)) in
-        ap (λ (level : ℕ). read (min level (kind .most))) l ∙ ap read (zero-min (kind .most)) ∙ ap (survivor settings w p) (left-out e)
+        let read : ℕ → Option Candidate = λ (level : ℕ). survivor settings w (reading kind level p (bitsAt (kind .bytes) s Coherent p) (bitsAt (kind .bytes) s Noncoherent p)) in
+        ap (λ (level : ℕ). read (min level (kind .most))) l ∙ ap read (zero-min (kind .most)) ∙ ap (survivor settings w) (left-out e)

@@ -42,17 +42,17 @@ below-nan x y e h = false≢true (sym (ap (lt x) (nan-is y e) ∙ lt-nan x) ∙ 
 -- ---- who beats whom
 
 abbrev Beats : Candidate → Candidate → Type 0
-Beats x h = (count (x .repairs) < count (h .repairs)) ⊎ ((count (x .repairs) ≡ count (h .repairs)) × (lt (h .cn0) (x .cn0) ≡ true))
+Beats x h = (count (x .location .repairs) < count (h .location .repairs)) ⊎ ((count (x .location .repairs) ≡ count (h .location .repairs)) × (lt (h .cn0) (x .cn0) ≡ true))
 
 record Loses (x h : Candidate) : Type 0 where
-  more : count (h .repairs) ≤ count (x .repairs)
-  not-above : count (x .repairs) ≡ count (h .repairs) → lt (h .cn0) (x .cn0) ≢ true
+  more : count (h .location .repairs) ≤ count (x .location .repairs)
+  not-above : count (x .location .repairs) ≡ count (h .location .repairs) → lt (h .cn0) (x .cn0) ≢ true
 
 beats-gives : (x h : Candidate) → beats x h ≡ true → Beats x h
 unfolding beats
-beats-gives x h e = go (ltb (count (x .repairs)) (count (h .repairs))) (eqb (count (x .repairs)) (count (h .repairs))) refl refl e
+beats-gives x h e = go (ltb (count (x .location .repairs)) (count (h .location .repairs))) (eqb (count (x .location .repairs)) (count (h .location .repairs))) refl refl e
   where
-    go : (p q : Bool) → ltb (count (x .repairs)) (count (h .repairs)) ≡ p → eqb (count (x .repairs)) (count (h .repairs)) ≡ q
+    go : (p q : Bool) → ltb (count (x .location .repairs)) (count (h .location .repairs)) ≡ p → eqb (count (x .location .repairs)) (count (h .location .repairs)) ≡ q
         → (p || (q && lt (h .cn0) (x .cn0))) ≡ true → Beats x h
     go true q a b e = inl (ltb-true _ _ a)
     go false true a b e = inr (eqb-true _ _ b, e)
@@ -60,10 +60,10 @@ beats-gives x h e = go (ltb (count (x .repairs)) (count (h .repairs))) (eqb (cou
 
 loses-gives : (x h : Candidate) → beats x h ≡ false → Loses x h
 unfolding beats
-loses-gives x h e = go (ltb (count (x .repairs)) (count (h .repairs))) refl e
+loses-gives x h e = go (ltb (count (x .location .repairs)) (count (h .location .repairs))) refl e
   where
-    go : (p : Bool) → ltb (count (x .repairs)) (count (h .repairs)) ≡ p
-        → (p || (eqb (count (x .repairs)) (count (h .repairs)) && lt (h .cn0) (x .cn0))) ≡ false → Loses x h
+    go : (p : Bool) → ltb (count (x .location .repairs)) (count (h .location .repairs)) ≡ p
+        → (p || (eqb (count (x .location .repairs)) (count (h .location .repairs)) && lt (h .cn0) (x .cn0))) ≡ false → Loses x h
     go true a e = absurd (true≢false e)
     go false a e = record {
       more = ltb-false _ _ a;
@@ -76,12 +76,12 @@ loses-gives x h e = go (ltb (count (x .repairs)) (count (h .repairs))) refl e
 module _ (f : ℕ → Option Candidate) where
   -- place number j holds x, with as many repairs as a
   abbrev pub Rival : Candidate → ℕ → Candidate → Type 0
-  Rival a j x = (f j ≡ some x) × (count (x .repairs) ≡ count (a .repairs))
+  Rival a j x = (f j ≡ some x) × (count (x .location .repairs) ≡ count (a .location .repairs))
 
   pub record Chosen (n i : ℕ) (a : Candidate) : Type 0 where
     pub below : i < n
     pub is : f i ≡ some a
-    pub fewest : (j : ℕ) (x : Candidate) → j < n → f j ≡ some x → count (a .repairs) ≤ count (x .repairs)
+    pub fewest : (j : ℕ) (x : Candidate) → j < n → f j ≡ some x → count (a .location .repairs) ≤ count (x .location .repairs)
     pub greatest : (j : ℕ) (x : Candidate) → j < n → Rival a j x → lt (a .cn0) (x .cn0) ≢ true
     pub earliest : (j : ℕ) (x : Candidate) → j < i → Rival a j x → le (a .cn0) (x .cn0) ≢ true
     pub newcomer : isNan (a .cn0) ≡ true → (j : ℕ) (x : Candidate) → j < i → ¬ Rival a j x
@@ -141,7 +141,7 @@ module _ (f : ℕ → Option Candidate) where
           record {
             below = omega arith;
             is = e;
-            fewest = λ j y l p. let s = self l p in subst (λ (z : Candidate). count (x .repairs) ≤ count (z .repairs)) (sym s) (omega arith);
+            fewest = λ j y l p. let s = self l p in subst (λ (z : Candidate). count (x .location .repairs) ≤ count (z .location .repairs)) (sym s) (omega arith);
             greatest = λ j y l r q.
                 let s = self l (r .0) in
                 lt-irreflexive (x .cn0) (so (subst (λ (z : Candidate). lt (x .cn0) (z .cn0) ≡ true) s q));
@@ -158,14 +158,14 @@ module _ (f : ℕ → Option Candidate) where
     self s q = lt-irreflexive (x .cn0) (so (subst (λ (z : Candidate). lt (x .cn0) (z .cn0) ≡ true) s q))
 
     -- with fewer repairs the newcomer has no rival
-    fewer-chosen : count (x .repairs) < count (a .repairs) → Chosen (n + 1) n x
+    fewer-chosen : count (x .location .repairs) < count (a .location .repairs) → Chosen (n + 1) n x
     fewer-chosen less =
         record {
           below = omega arith;
           is = e;
           fewest = λ j y l p. elim (here l p) [
             | inl m ↦ let k = c .fewest j y m p in omega arith
-            | inr m ↦ subst (λ (z : Candidate). count (x .repairs) ≤ count (z .repairs)) (sym (m .1)) (omega arith)
+            | inr m ↦ subst (λ (z : Candidate). count (x .location .repairs) ≤ count (z .location .repairs)) (sym (m .1)) (omega arith)
           ];
           greatest = λ j y l r. elim (here l (r .0)) [ inl m ↦ absurd (alone m r) | inr m ↦ self (m .1) ];
           earliest = λ j y l r. absurd (alone l r);
@@ -177,14 +177,14 @@ module _ (f : ℕ → Option Candidate) where
         alone {j} {y} m r = let k = c .fewest j y m (r .0) in let q = r .1 in omega arith
 
     -- as many, and a strictly greater cn0
-    greater-chosen : count (x .repairs) ≡ count (a .repairs) → lt (a .cn0) (x .cn0) ≡ true → Chosen (n + 1) n x
+    greater-chosen : count (x .location .repairs) ≡ count (a .location .repairs) → lt (a .cn0) (x .cn0) ≡ true → Chosen (n + 1) n x
     greater-chosen same above =
         record {
           below = omega arith;
           is = e;
           fewest = λ j y l p. elim (here l p) [
             | inl m ↦ let k = c .fewest j y m p in omega arith
-            | inr m ↦ subst (λ (z : Candidate). count (x .repairs) ≤ count (z .repairs)) (sym (m .1)) (omega arith)
+            | inr m ↦ subst (λ (z : Candidate). count (x .location .repairs) ≤ count (z .location .repairs)) (sym (m .1)) (omega arith)
           ];
           greatest = λ j y l r. elim (here l (r .0)) [
             | inl m ↦ λ q. c .greatest j y m (with-a r) (is-so _ (lt-transitive (a .cn0) (x .cn0) (y .cn0) (so above) (so q)))
@@ -212,13 +212,13 @@ module _ (f : ℕ → Option Candidate) where
           is = c .is;
           fewest = λ j y l p. elim (here l p) [
             | inl m ↦ c .fewest j y m p
-            | inr m ↦ subst (λ (z : Candidate). count (a .repairs) ≤ count (z .repairs)) (sym (m .1)) (o .more)
+            | inr m ↦ subst (λ (z : Candidate). count (a .location .repairs) ≤ count (z .location .repairs)) (sym (m .1)) (o .more)
           ];
           greatest = λ j y l r. elim (here l (r .0)) [
             | inl m ↦ c .greatest j y m r
             | inr m ↦ λ q.
                 let s = m .1 in
-                o .not-above (sym (ap (λ (z : Candidate). count (z .repairs)) s) ∙ r .1) (subst (λ (z : Candidate). lt (a .cn0) (z .cn0) ≡ true) s q)
+                o .not-above (sym (ap (λ (z : Candidate). count (z .location .repairs)) s) ∙ r .1) (subst (λ (z : Candidate). lt (a .cn0) (z .cn0) ≡ true) s q)
           ];
           earliest = c .earliest;
           newcomer = c .newcomer;

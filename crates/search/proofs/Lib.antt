@@ -3,3 +3,4 @@ pub mod Scanning
 pub mod Choosing
 pub mod Staging
 pub mod Marks
+pub mod Locating

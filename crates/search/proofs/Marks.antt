@@ -13,9 +13,6 @@ use mathlib.Core.Logic.{_⊎_, inl, inr}
 use mathlib.Core.Option.{Option, none, some}
 use Prim.Native.Nat.{ℕ, _+_, _*_, _≤_, _<_, min}
 use native.Mathlib.Omega.{arith}
-use borrow.Author.Tests.{eq-eqb}
-use lib.ListN.{length, drop, length-drop}
-use lib.Seq.{length-take-le}
 use lib.Ieee.{Float}
 use Rattle.lists.specs.Bits.{asBit, bitAt, howMany}
 use Rattle.lists.proofs.Bits.{howMany-same}
@@ -23,19 +20,18 @@ use Rattle.math.specs.declared.Complex.{Complex}
 use Rattle.place.specs.declared.Place.{Place}
 use Rattle.place.specs.declared.Slicer.{Slicer}
 use Rattle.place.specs.declared.Slicer.the-variants.{Coherent, Noncoherent}
-use Rattle.place.specs.Step.{symbolStart, within}
+use Rattle.place.specs.declared.location.Location.{Location}
+use Rattle.place.specs.Step.{symbolStart}
 use Rattle.place.specs.All.{listed}
-use Rattle.place.proofs.Within.{listed-gives, within-is}
-use Rattle.parts.specs.Part.{rowRefusal, symbolsFor}
-use Rattle.parts.proofs.Taken.{symbols-done}
-use Rattle.kernels.specs.Symbols.{complexAt, symbolOf, symbolsOf}
+use Rattle.place.proofs.Within.{listed-gives}
+use Rattle.parts.specs.Part.{symbolsAt}
+use Rattle.kernels.specs.Symbols.{complexAt, symbolOf}
 use Rattle.kernels.specs.Slices.{undecided, ofPair, markBit}
 use Rattle.kernels.specs.Undecided.{undecidedIn}
 use Rattle.kernels.proofs.Slicing.{pair-inside, bit-marked}
-use Rattle.kernels.proofs.Summing.{complex-part, row-symbol, symbols-length}
+use Rattle.kernels.proofs.Summing.{complex-part, row-symbol}
 use Rattle.streams.proofs.Reading.{message-bit}
 use Rattle.search.specs.declared.Settings.{Settings}
-use Rattle.search.specs.declared.Reading.{Reading}
 use Rattle.search.specs.declared.Tried.{Tried}
 use Rattle.search.specs.declared.Tried.the-variants.{Pass, Fail}
 use Rattle.search.specs.declared.Candidate.{Candidate}
@@ -101,35 +97,19 @@ module _ (samples : List Float) (p : Place) where
     unfolding undecidedAt
     by-samples = howMany-same (bitAt (marksAt n samples slicer p)) tossed (8 * n) marks-tossed
 
-    row-length : length (row samples (p .phase)) ≡ 576
-    unfolding row
-    row-length =
-        let g = listed-gives m p e in
-        length-take-le 576 (drop (576 * p .phase) (symbolsOf samples)) (rw (length-drop (576 * p .phase) (symbolsOf samples), symbols-length samples) (omega (arith, g .phase)))
-
-    inside : within n p ≡ true
-    inside =
-        let g = listed-gives m p e in
-        within-is n p (record { phase = g .phase; symbol = g .symbol; start = omega (arith, g .to, g .symbol) })
-
-    taken : rowRefusal 576 n (row samples (p .phase)) p ≡ 0
-    unfolding rowRefusal
-    taken = rw (eq-eqb _ _ row-length, inside)
-
     -- symbol i of the part
-    in-part : (i : ℕ) → i < 16 * n → complexAt (symbolsFor n (row samples (p .phase)) p) i ≡ symbolOf samples (p .phase) (symbolStart p + i)
-    unfolding row
+    in-part : (i : ℕ) → i < 16 * n → complexAt (symbolsAt n (row samples (p .phase)) p) i ≡ symbolOf samples (p .phase) (symbolStart p + i)
+    unfolding row symbolsAt
     in-part i l =
         let g = listed-gives m p e in
         let a : 32 * n ≡ 2 * (16 * n) = omega arith in
-        ap (λ (x : List Float). complexAt x i) (symbols-done n (row samples (p .phase)) p taken)
-        ∙ rw a (complex-part (row samples (p .phase)) (symbolStart p) (16 * n) i l)
+        rw a (complex-part (row samples (p .phase)) (symbolStart p) (16 * n) i l)
         ∙ row-symbol samples (p .phase) (symbolStart p + i) (omega (arith, g .phase)) (omega (arith, g .to, g .symbol))
 
-    pub by-symbols : undecidedIn slicer (symbolsFor n (row samples (p .phase)) p) (8 * n) ≡ undecidedAt n samples slicer p
+    pub by-symbols : undecidedIn slicer (symbolsAt n (row samples (p .phase)) p) (8 * n) ≡ undecidedAt n samples slicer p
     unfolding undecidedIn
     by-symbols =
-        let x = symbolsFor n (row samples (p .phase)) p in
+        let x = symbolsAt n (row samples (p .phase)) p in
         howMany-same (λ (j : ℕ). asBit (undecided slicer (complexAt x (2 * j)) (complexAt x (2 * j + 1)))) tossed (8 * n)
         (λ j l.
         let a : symbolStart p + (2 * j + 1) ≡ symbolStart p + 2 * j + 1 = omega arith in
@@ -140,20 +120,20 @@ module _ (samples : List Float) (p : Place) where
 
 -- ---- a search that sees no marks
 
-module _ (w : Window) (p : Place) where
+module _ (w : Window) where
   -- nothing survives of either, or the same reading does
   abbrev pub Alike : Option Candidate → Option Candidate → Type 0
-  Alike o o' = ((o ≡ none) × (o' ≡ none)) ⊎ ((r : Reading) × (o ≡ some (candidate (unmarked w) p r)) × (o' ≡ some (candidate w p r)))
+  Alike o o' = ((o ≡ none) × (o' ≡ none)) ⊎ ((r : Location) × (o ≡ some (candidate (unmarked w) r)) × (o' ≡ some (candidate w r)))
 
-  survivors-alike : (s : Settings) (t : Tried) → Alike (survivor s (unmarked w) p t) (survivor s w p t)
+  survivors-alike : (s : Settings) (t : Tried) → Alike (survivor s (unmarked w) t) (survivor s w t)
   unfolding survivor dropped candidate
   survivors-alike s Fail = inl (refl, refl)
-  survivors-alike s (Pass r) = go (dropped s (w .distance p) (candidate w p r))
+  survivors-alike s (Pass r) = go (dropped s (w .distance (r .place)) (candidate w r))
     where
-      go : (b : Bool) → Alike (cond b none (some (candidate (unmarked w) p r))) (cond b none (some (candidate w p r)))
+      go : (b : Bool) → Alike (cond b none (some (candidate (unmarked w) r))) (cond b none (some (candidate w r)))
       go true = inl (refl, refl)
       go false = inr (r, refl, refl)
 
-  pub unmarked-alike : (kind : Kind) (s : Settings) → Alike (candidateAt kind s (unmarked w) p) (candidateAt kind s w p)
+  pub unmarked-alike : (kind : Kind) (s : Settings) (p : Place) → Alike (candidateAt kind s (unmarked w) p) (candidateAt kind s w p)
   unfolding candidateAt
-  unmarked-alike kind s = survivors-alike s (reading kind (min (s .level) (kind .most)) (w .bits Coherent p) (w .bits Noncoherent p))
+  unmarked-alike kind s p = survivors-alike s (reading kind (min (s .level) (kind .most)) p (w .bits Coherent p) (w .bits Noncoherent p))

@@ -19,9 +19,9 @@ use Rattle.annex10.specs.declared.Found.the-variants.{Nothing}
 use Rattle.place.specs.declared.Place.{Place}
 use Rattle.place.specs.declared.Slicer.{Slicer}
 use Rattle.place.specs.declared.Slicer.the-variants.{Coherent, Noncoherent}
+use Rattle.place.specs.declared.location.Location.{Location}
 use Rattle.search.specs.declared.Settings.{Settings}
 use Rattle.search.specs.declared.Candidate.{Candidate}
-use Rattle.search.specs.declared.Reading.{Reading}
 use Rattle.search.specs.declared.Tried.{Tried}
 use Rattle.search.specs.declared.Tried.the-variants.{Pass, Fail}
 use Rattle.search.specs.Kinds.{Kind, placesOf}
@@ -38,16 +38,16 @@ atLevel m s = record { level = m; threshold = s .threshold; second = s .second; 
 -- ---- what is found at a lower level
 
 module _ (kind : Kind) (s : Settings) (w : Window) where
-  same-survivor : (m : ℕ) (p : Place) (t : Tried) → survivor (atLevel m s) w p t ≡ survivor s w p t
+  same-survivor : (m : ℕ) (t : Tried) → survivor (atLevel m s) w t ≡ survivor s w t
   unfolding survivor dropped
-  same-survivor m p Fail = refl
-  same-survivor m p (Pass r) = refl
+  same-survivor m Fail = refl
+  same-survivor m (Pass r) = refl
 
   same-whole : (m : ℕ) → whole kind (atLevel m s) w ≡ whole kind s w
   unfolding whole
   same-whole m =
       ap (λ (f : Place → Option Candidate). scan f none (placesOf kind))
-      (fun-ext (λ p. same-survivor m p (reading kind 2 (w .bits Coherent p) (w .bits Noncoherent p))))
+      (fun-ext (λ p. same-survivor m (reading kind 2 p (w .bits Coherent p) (w .bits Noncoherent p))))
 
   pub exact-first : (m : ℕ) {a : Candidate} → m ≤ s .level → best kind (atLevel m s) w ≡ some a → best kind s w ≡ some a
   exact-first m {a} h e =
@@ -83,45 +83,45 @@ two-first (Pass r) u ts h = h
 two-first Fail (Pass r) ts h = h
 two-first Fail Fail ts h = refl
 
-module _ (kind : Kind) (coherent noncoherent : List ℕ) where
+module _ (kind : Kind) (p : Place) (coherent noncoherent : List ℕ) where
   abbrev one : Tried
-  one = checked kind 1 Coherent coherent (cleared kind coherent 0)
+  one = checked kind p 1 Coherent coherent (cleared kind coherent 0)
 
   abbrev two : Tried
-  two = checked kind 2 Noncoherent noncoherent (cleared kind noncoherent 0)
+  two = checked kind p 2 Noncoherent noncoherent (cleared kind noncoherent 0)
 
   abbrev others : ℕ → List Tried
   others level =
-      given (leb 1 level) (checked kind 3 Coherent coherent (cleared kind coherent 1))
-      ∷ given (leb 1 level) (given (differ coherent noncoherent) (checked kind 4 Noncoherent noncoherent (cleared kind noncoherent 1)))
-      ∷ given (leb 2 level) (checked kind 5 Coherent coherent (cleared kind coherent 2))
-      ∷ given (leb 2 level) (given (differ coherent noncoherent) (checked kind 6 Noncoherent noncoherent (cleared kind noncoherent 2)))
+      given (leb 1 level) (checked kind p 3 Coherent coherent (cleared kind coherent 1))
+      ∷ given (leb 1 level) (given (differ coherent noncoherent) (checked kind p 4 Noncoherent noncoherent (cleared kind noncoherent 1)))
+      ∷ given (leb 2 level) (checked kind p 5 Coherent coherent (cleared kind coherent 2))
+      ∷ given (leb 2 level) (given (differ coherent noncoherent) (checked kind p 6 Noncoherent noncoherent (cleared kind noncoherent 2)))
       ∷ []
 
-  as-listed : (level : ℕ) → reading kind level coherent noncoherent ≡ first (one ∷ two ∷ others level)
+  as-listed : (level : ℕ) → reading kind level p coherent noncoherent ≡ first (one ∷ two ∷ others level)
   unfolding reading trials sixTrials
   as-listed level = refl
 
-  missed : (number : ℕ) (slicer : Slicer) (bits : List ℕ) → given true (checked kind number slicer bits Nothing) ≡ Fail
+  missed : (number : ℕ) (slicer : Slicer) (bits : List ℕ) → given true (checked kind p number slicer bits Nothing) ≡ Fail
   unfolding given checked
   missed number slicer bits = refl
 
   -- a trial that is made only from level n on, for n positions
   unmade : (n level number : ℕ) (slicer : Slicer) (bits : List ℕ) → (n ≤ level → cleared kind bits n ≡ Nothing)
-      → given (leb n level) (checked kind number slicer bits (cleared kind bits n)) ≡ Fail
+      → given (leb n level) (checked kind p number slicer bits (cleared kind bits n)) ≡ Fail
   unmade n level number slicer bits h = go (leb n level) refl
     where
-      go : (b : Bool) → leb n level ≡ b → given b (checked kind number slicer bits (cleared kind bits n)) ≡ Fail
+      go : (b : Bool) → leb n level ≡ b → given b (checked kind p number slicer bits (cleared kind bits n)) ≡ Fail
       go true q = rw (h (leb-true n level q)) (missed number slicer bits)
-      go false q = unasked (checked kind number slicer bits (cleared kind bits n))
+      go false q = unasked (checked kind p number slicer bits (cleared kind bits n))
 
   swapped : (n level : ℕ) (b : Bool) (number : ℕ) → (n ≤ level → cleared kind noncoherent n ≡ Nothing)
-      → given (leb n level) (given b (checked kind number Noncoherent noncoherent (cleared kind noncoherent n))) ≡ Fail
+      → given (leb n level) (given b (checked kind p number Noncoherent noncoherent (cleared kind noncoherent n))) ≡ Fail
   swapped n level b number h = swap (leb n level) b _ ∙ ap (given b) (unmade n level number Noncoherent noncoherent h) ∙ given-fail b
 
-  pub later-fails : (level : ℕ) → reading kind 0 coherent noncoherent ≡ Fail
+  pub later-fails : (level : ℕ) → reading kind 0 p coherent noncoherent ≡ Fail
       → ((n : ℕ) → 1 ≤ n → n ≤ level → (cleared kind coherent n ≡ Nothing) × (cleared kind noncoherent n ≡ Nothing))
-      → reading kind level coherent noncoherent ≡ Fail
+      → reading kind level p coherent noncoherent ≡ Fail
   later-fails level h c =
       as-listed level
       ∙ rest-fails one two (two-first one two (others 0) (sym (as-listed 0) ∙ h))
@@ -131,28 +131,28 @@ module _ (kind : Kind) (coherent noncoherent : List ℕ) where
       (swapped 2 level (differ coherent noncoherent) 6 (λ l. c 2 (omega arith) l .1))
 
 -- a reading with no repairs is not dropped
-module _ (kind : Kind) (s : Settings) (w : Window) (p : Place) where
-  stays : (r : Reading) → count (r .repairs) ≤ 0 → survivor s w p (Pass r) ≡ some (candidate w p r)
+module _ (s : Settings) (w : Window) where
+  stays : (r : Location) → count (r .repairs) ≤ 0 → survivor s w (Pass r) ≡ some (candidate w r)
   unfolding survivor dropped candidate
   stays r l = rw (ne-eqb (count (r .repairs)) 2 (λ q. omega arith))
 
-  none-passed : (b : Bool) (r : Reading) → leb (count (r .repairs)) 0 ≡ b → survivor s w p (cond b (Pass r) Fail) ≡ none → cond b (Pass r) Fail ≡ Fail
+  none-passed : (b : Bool) (r : Location) → leb (count (r .repairs)) 0 ≡ b → survivor s w (cond b (Pass r) Fail) ≡ none → cond b (Pass r) Fail ≡ Fail
   none-passed true r q e = not-some (sym e ∙ stays r (leb-true _ _ q))
   none-passed false r q e = refl
 
-  none-up : (t : Tried) → survivor s w p (upTo 0 t) ≡ none → upTo 0 t ≡ Fail
+  none-up : (t : Tried) → survivor s w (upTo 0 t) ≡ none → upTo 0 t ≡ Fail
   none-up (Pass r) e = none-passed (leb (count (r .repairs)) 0) r refl e
   none-up Fail e = refl
 
 module _ (kind : Kind) (s : Settings) (w : Window) (p : Place) where
-  pub exact-none : candidateAt kind (atLevel 0 s) w p ≡ none → reading kind 0 (w .bits Coherent p) (w .bits Noncoherent p) ≡ Fail
+  pub exact-none : candidateAt kind (atLevel 0 s) w p ≡ none → reading kind 0 p (w .bits Coherent p) (w .bits Noncoherent p) ≡ Fail
   unfolding candidateAt
   exact-none e =
-      let q = limited kind (w .bits Coherent p) (w .bits Noncoherent p) 0 in
-      q ∙ none-up kind (atLevel 0 s) w p (reading kind 2 (w .bits Coherent p) (w .bits Noncoherent p)) (ap (survivor (atLevel 0 s) w p) (sym q) ∙ rw (zero-min (kind .most)) at e)
+      let q = limited kind p (w .bits Coherent p) (w .bits Noncoherent p) 0 in
+      q ∙ none-up (atLevel 0 s) w (reading kind 2 p (w .bits Coherent p) (w .bits Noncoherent p)) (ap (survivor (atLevel 0 s) w) (sym q) ∙ rw (zero-min (kind .most)) at e)
 
   pub later-none : candidateAt kind (atLevel 0 s) w p ≡ none
       → ((n : ℕ) → 1 ≤ n → n ≤ min (s .level) (kind .most) → (cleared kind (w .bits Coherent p) n ≡ Nothing) × (cleared kind (w .bits Noncoherent p) n ≡ Nothing))
       → candidateAt kind s w p ≡ none
   unfolding candidateAt survivor
-  later-none e c = ap (survivor s w p) (later-fails kind (w .bits Coherent p) (w .bits Noncoherent p) (min (s .level) (kind .most)) (exact-none e) c)
+  later-none e c = ap (survivor s w) (later-fails kind p (w .bits Coherent p) (w .bits Noncoherent p) (min (s .level) (kind .most)) (exact-none e) c)

@@ -12,8 +12,10 @@ use Rattle.floats.specs.Numbers.{zeroF}
 use Rattle.annex10.specs.declared.Repairs.the-variants.{None}
 use Rattle.place.specs.declared.Place.{Place}
 use Rattle.place.specs.declared.Slicer.the-variants.{Coherent}
+use Rattle.place.specs.declared.location.Location.{Location}
 use Rattle.place.specs.Step.{sampleStart}
 use Rattle.place.specs.All.{listed}
+use Rattle.place.specs.Agrees.{locationNumber}
 use Rattle.search.specs.declared.Settings.{Settings}
 use Rattle.search.specs.declared.Candidate.{Candidate}
 use Rattle.search.specs.declared.Survivor.{Survivor}
@@ -46,18 +48,19 @@ indexNumber index = cond (leb 128 index && leb index (2 ^ 63)) 0 6
 unfoldable pub placeNumber : Kind → Place → ℕ
 placeNumber kind p = cond (listed (kind .last) p) 0 7
 
+-- a location lies at such a place, and its record is one that is taken
+abbrev pub searchedNumber : Kind → Location → ℕ
+searchedNumber kind l = orNumber (placeNumber kind (l .place)) (locationNumber (kind .bytes) l)
+
 -- ---- zeros
 
-abbrev pub nowhere : Place
-nowhere = record { bit = 0; phase = 0; symbol = 0 }
+abbrev pub nowhere : Location
+nowhere = record { place = record { bit = 0; phase = 0; symbol = 0 }; trial = 0; slicer = Coherent; repairs = None }
 
 abbrev pub noCandidate : Kind → Candidate
 noCandidate kind =
     record {
-      place = nowhere;
-      trial = 0;
-      slicer = Coherent;
-      repairs = None;
+      location = nowhere;
       message = replicate (kind .bytes) 0;
       prompt = zeroF;
       cn0 = zeroF;
@@ -68,10 +71,8 @@ abbrev pub refusedAnswer : Kind → ℕ → Answer
 refusedAnswer kind n =
     record {
       number = n;
-      place = nowhere;
+      location = nowhere;
       message = replicate (kind .bytes) 0;
-      repairs = None;
-      slicer = Coherent;
       cn0 = zeroF;
       index = 0;
       fraction = zeroF;
@@ -99,27 +100,25 @@ readAt kind samples s p =
 unfoldable pub bestOf : Kind → List Float → Settings → Survivor
 bestOf kind samples s = survivorOr kind (orNumber (windowNumber samples) (settingsNumber s)) (best kind s (seen kind samples))
 
--- when a message at a place came
-unfoldable pub arrivalAt : Kind → List Float → Place → List ℕ → ℕ → Arrival
-arrivalAt kind samples p message index =
-    let n = orNumber (windowNumber samples) (orNumber (indexNumber index) (placeNumber kind p)) in
-    let t = timingAt (seen kind samples) message (sampleStart p) in
+-- when a message at a location came
+unfoldable pub arrivalAt : Kind → List Float → Location → List ℕ → ℕ → Arrival
+arrivalAt kind samples l message index =
+    let n = orNumber (windowNumber samples) (orNumber (indexNumber index) (searchedNumber kind l)) in
+    let t = timingAt (seen kind samples) message l in
     cond (eqb n 0)
-    (record { number = 0; index = indexOf index (sampleStart p) (t .moves); fraction = t .fraction })
+    (record { number = 0; index = indexOf index (sampleStart (l .place)) (t .moves); fraction = t .fraction })
     (record { number = n; index = 0; fraction = zeroF })
 
 -- a candidate with its time
 unfoldable pub answerOf : Kind → List Float → ℕ → Candidate → Answer
 answerOf kind samples index c =
-    let t = timingAt (seen kind samples) (c .message) (sampleStart (c .place)) in
+    let t = timingAt (seen kind samples) (c .message) (c .location) in
     record {
       number = 0;
-      place = c .place;
+      location = c .location;
       message = c .message;
-      repairs = c .repairs;
-      slicer = c .slicer;
       cn0 = c .cn0;
-      index = indexOf index (sampleStart (c .place)) (t .moves);
+      index = indexOf index (sampleStart (c .location .place)) (t .moves);
       fraction = t .fraction;
       undecided = c .undecided;
     }

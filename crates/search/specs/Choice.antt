@@ -5,13 +5,13 @@ use mathlib.Core.List.{List, foldl}
 use mathlib.Core.Option.{Option, none, some}
 use Prim.Native.Nat.{ℕ, min}
 use lib.Dec.{ltb, leb, eqb}
-use lib.Ieee.{lt}
+use lib.Ieee.{Float, lt}
 use Rattle.annex10.specs.Repair.{count, repaired}
 use Rattle.place.specs.declared.Place.{Place}
 use Rattle.place.specs.declared.Slicer.{Slicer}
 use Rattle.place.specs.declared.Slicer.the-variants.{Coherent, Noncoherent}
+use Rattle.place.specs.declared.location.Location.{Location}
 use Rattle.search.specs.declared.Settings.{Settings}
-use Rattle.search.specs.declared.Reading.{Reading}
 use Rattle.search.specs.declared.Tried.{Tried}
 use Rattle.search.specs.declared.Tried.the-variants.{Pass, Fail}
 use Rattle.search.specs.declared.Candidate.{Candidate}
@@ -19,19 +19,16 @@ use Rattle.search.specs.Kinds.{Kind, placesOf}
 use Rattle.search.specs.Window.{Window}
 use Rattle.search.specs.Trials.{reading}
 
--- a reading at a place, with its message, power and cn0. What it counts are marks of the sliced bits: a repair takes none away
-unfoldable pub candidate : Window → Place → Reading → Candidate
-candidate w p r =
-    let message = repaired (w .bits (r .slicer) p) (r .repairs) in
+-- a reading with its message, power and cn0. What it counts are marks of the sliced bits: a repair takes none away
+unfoldable pub candidate : Window → Location → Candidate
+candidate w l =
+    let message = repaired (w .bits (l .slicer) (l .place)) (l .repairs) in
     record {
-      place = p;
-      trial = r .trial;
-      slicer = r .slicer;
-      repairs = r .repairs;
+      location = l;
       message = message;
-      prompt = w .prompt p message;
-      cn0 = w .cn0 p message;
-      undecided = w .undecided (r .slicer) p;
+      prompt = w .prompt (l .place) message;
+      cn0 = w .cn0 (l .place) message;
+      undecided = w .undecided (l .slicer) (l .place);
     }
 
 abbrev pub isNoncoherent : Slicer → Bool
@@ -41,22 +38,24 @@ isNoncoherent Noncoherent = true
 -- two repairs are dropped below the threshold; if noncoherent, also below the second where the slicers' bits differ in too many places
 unfoldable pub dropped : Settings → ℕ → Candidate → Bool
 dropped s differing c =
-    eqb (count (c .repairs)) 2
-    && (lt (c .cn0) (s .threshold) || (isNoncoherent (c .slicer) && (lt (c .cn0) (s .second) && leb (s .distance) differing)))
+    eqb (count (c .location .repairs)) 2
+    && (lt (c .cn0) (s .threshold) || (isNoncoherent (c .location .slicer) && (lt (c .cn0) (s .second) && leb (s .distance) differing)))
 
-unfoldable pub survivor : Settings → Window → Place → Tried → Option Candidate
-survivor s w p Fail = none
-survivor s w p (Pass r) = cond (dropped s (w .distance p) (candidate w p r)) none (some (candidate w p r))
+unfoldable pub survivor : Settings → Window → Tried → Option Candidate
+survivor s w Fail = none
+survivor s w (Pass l) = cond (dropped s (w .distance (l .place)) (candidate w l)) none (some (candidate w l))
 
 -- the surviving reading of a place: the level is at most what the kind of message allows
 unfoldable pub candidateAt : Kind → Settings → Window → Place → Option Candidate
-candidateAt kind s w p = survivor s w p (reading kind (min (s .level) (kind .most)) (w .bits Coherent p) (w .bits Noncoherent p))
+candidateAt kind s w p = survivor s w (reading kind (min (s .level) (kind .most)) p (w .bits Coherent p) (w .bits Noncoherent p))
 
--- a newcomer displaces the holder: fewer repairs, or as many and a strictly greater cn0
+-- n repairs and the cn0 x displace h repairs and y: fewer, or as many and a strictly greater cn0
+abbrev pub beatsBy : ℕ → Float → ℕ → Float → Bool
+beatsBy n x h y = ltb n h || (eqb n h && lt y x)
+
+-- a newcomer displaces the holder
 unfoldable pub beats : Candidate → Candidate → Bool
-beats new held =
-    ltb (count (new .repairs)) (count (held .repairs))
-    || (eqb (count (new .repairs)) (count (held .repairs)) && lt (held .cn0) (new .cn0))
+beats new held = beatsBy (count (new .location .repairs)) (new .cn0) (count (held .location .repairs)) (held .cn0)
 
 abbrev pub better : Option Candidate → Option Candidate → Option Candidate
 better none new = new

@@ -8,7 +8,7 @@ use Rattle.lists.specs.Bits.{bitAt, howMany}
 use Rattle.place.specs.declared.Place.{Place}
 use Rattle.place.specs.declared.Slicer.{Slicer}
 use Rattle.place.specs.declared.Slicer.the-variants.{Coherent, Noncoherent}
-use Rattle.parts.specs.Part.{symbolsFor, samplesFor}
+use Rattle.parts.specs.Part.{symbolsAt, samplesAt}
 use Rattle.kernels.specs.Symbols.{symbolsOf}
 use Rattle.kernels.specs.Slices.{sliced, marks}
 use Rattle.kernels.specs.Powers.{powerOf, noiseOf}
@@ -39,10 +39,10 @@ undecidedAt n samples slicer p = howMany (bitAt (marksAt n samples slicer p)) (8
 
 -- the power of a message in its pulses, and beside them
 unfoldable pub promptAt : ℕ → List Float → Place → List ℕ → Float
-promptAt n samples p message = powerOf n (symbolsFor n (row samples (p .phase)) p) message
+promptAt n samples p message = powerOf n (symbolsAt n (row samples (p .phase)) p) message
 
 unfoldable pub noiseAt : ℕ → List Float → Place → List ℕ → Float
-noiseAt n samples p message = noiseOf n (samplesFor n samples p) message
+noiseAt n samples p message = noiseOf n (samplesAt n samples p) message
 
 -- all that the search looks at
 unfoldable pub windowOf : ℕ → List Float → Window

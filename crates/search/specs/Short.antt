@@ -11,10 +11,7 @@ use Rattle.search.specs.declared.ShortAnswer.{ShortAnswer}
 abbrev pub shortCandidate : Candidate → ShortCandidate
 shortCandidate c =
     record {
-      place = c .place;
-      trial = c .trial;
-      slicer = c .slicer;
-      repairs = c .repairs;
+      location = c .location;
       message = c .message;
       prompt = c .prompt;
       cn0 = c .cn0;
@@ -28,10 +25,8 @@ abbrev pub shortAnswer : Answer → ShortAnswer
 shortAnswer a =
     record {
       number = a .number;
-      place = a .place;
+      location = a .location;
       message = a .message;
-      repairs = a .repairs;
-      slicer = a .slicer;
       cn0 = a .cn0;
       index = a .index;
       fraction = a .fraction;
@@ -43,10 +38,8 @@ abbrev pub ofShort : ShortAnswer → Answer
 ofShort a =
     record {
       number = a .number;
-      place = a .place;
+      location = a .location;
       message = a .message;
-      repairs = a .repairs;
-      slicer = a .slicer;
       cn0 = a .cn0;
       index = a .index;
       fraction = a .fraction;

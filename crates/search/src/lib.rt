@@ -1,7 +1,5 @@
 // The types of a search and of its answer. What they mean stands in specs/; no code.
-use annex10::Repairs;
-use place::Place;
-use place::Slicer;
+use place::location::Location;
 use timing::Offset;
 
 // The level is the most bits that are repaired, 0 to 2. A reading with two repairs has to reach the first threshold; if it is
@@ -13,24 +11,15 @@ pub struct Settings {
     pub distance: u32,
 }
 
-// A trial that passed: its number, 1 to 6, the slicer that it names and the positions that it repairs.
-pub struct Reading {
-    pub trial: u8,
-    pub slicer: Slicer,
-    pub repairs: Repairs,
-}
-
+// A trial that passed, as the location that it names: the reading of its place.
 pub enum Tried {
-    Pass(Reading),
+    Pass(Location),
     Fail,
 }
 
-// A reading at a place, with its message, prompt power and cn0, and how many of the bits that were sliced for it were undecided.
+// A reading, with its message, prompt power and cn0, and how many of the bits that were sliced for it were undecided.
 pub struct Candidate {
-    pub place: Place,
-    pub trial: u8,
-    pub slicer: Slicer,
-    pub repairs: Repairs,
+    pub location: Location,
     pub message: [u8; 14],
     pub prompt: f32,
     pub cn0: f32,
@@ -43,9 +32,9 @@ pub struct Survivor {
     pub candidate: Candidate,
 }
 
-// Where the power of a message is looked at: the place, the power there, and how it lies to the message's own.
+// Where the power of a message is looked at: the location, the power there, and how it lies to the message's own.
 pub struct Prompt {
-    pub place: Place,
+    pub location: Location,
     pub power: f32,
     pub offset: Offset,
 }
@@ -60,10 +49,8 @@ pub struct Arrival {
 // What a decode answers. Where the number is not 0 the other fields are zeros, coherent and no repairs.
 pub struct Answer {
     pub number: u32,
-    pub place: Place,
+    pub location: Location,
     pub message: [u8; 14],
-    pub repairs: Repairs,
-    pub slicer: Slicer,
     pub cn0: f32,
     pub index: u64,
     pub fraction: f32,
@@ -72,10 +59,7 @@ pub struct Answer {
 
 // The same for short messages: 7 bytes.
 pub struct ShortCandidate {
-    pub place: Place,
-    pub trial: u8,
-    pub slicer: Slicer,
-    pub repairs: Repairs,
+    pub location: Location,
     pub message: [u8; 7],
     pub prompt: f32,
     pub cn0: f32,
@@ -89,10 +73,8 @@ pub struct ShortSurvivor {
 
 pub struct ShortAnswer {
     pub number: u32,
-    pub place: Place,
+    pub location: Location,
     pub message: [u8; 7],
-    pub repairs: Repairs,
-    pub slicer: Slicer,
     pub cn0: f32,
     pub index: u64,
     pub fraction: f32,

@@ -1,6 +1,6 @@
--- `parts::refusal_to` meets its contract: the lengths first, then the bit offset.
+-- `parts::refusal_to` meets its contract: the lengths first, then the location.
 -- Assumes nothing.
-use borrow.Author.Tests.{le-leb, lt-leb, eq-eqb, ne-eqb}
+use borrow.Author.Tests.{eq-eqb, ne-eqb}
 use Rattle.parts.proofs.refusal_to.Statement.{statement}
 use Rattle.parts.proofs.refusal_to.Tie as tie
 
@@ -11,10 +11,7 @@ returns-2 : tie.Need-returns-2
 returns-2 c = rw (eq-eqb _ _ (c .before .if1 .left), ne-eqb _ _ (c .if2 .taken))
 
 returns-3 : tie.Need-returns-3
-returns-3 c = rw (eq-eqb _ _ (c .before .before .if1 .left), eq-eqb _ _ (c .before .if2 .left), lt-leb _ _ (c .if3 .taken))
-
-returns-4 : tie.Need-returns-4
-returns-4 c = rw (eq-eqb _ _ (c .before .before .if1 .left), eq-eqb _ _ (c .before .if2 .left), le-leb _ _ (c .if3 .left))
+returns-3 c = rw (eq-eqb _ _ (c .before .if1 .left), eq-eqb _ _ (c .if2 .left))
 
 pub refusal-to-spec : {M : Type 1} → statement M
-refusal-to-spec = tie.close (tie.spec returns returns-2 returns-3 returns-4)
+refusal-to-spec = tie.close (tie.spec returns returns-2 returns-3)

@@ -3,6 +3,7 @@
 use mathlib.Core.Path.{sym, _∙_}
 use native.Mathlib.Nat.{add-sub-cancel-left}
 use native.Mathlib.Omega.{arith}
+use Rattle.parts.specs.Part.{samplesAt}
 use Rattle.parts.proofs.Taken.{RowTaken, row-taken, samples-done, samples-none}
 use borrow.Author.Needs.{needs}
 use Rattle.parts.proofs.samples_of.Statement.{statement}
@@ -12,10 +13,10 @@ slice-aggregate-result : tie.Need-slice-aggregate-result
 slice-aggregate-result c = search needs
 
 returns : tie.Need-returns
-returns c = sym (samples-none _ _ _ (λ e. c .before .if1 .taken (c .before .before .pre .1 ∙ e)))
+returns c = sym (samples-none _ _ _ (λ e. c .before .if1 .taken (c .before .before .before .pre .1 ∙ e)))
 
-taken : (c : tie.Else1) → RowTaken 2310 (c .before .args .bytes) (c .before .args .window .now) (c .before .args .place)
-taken c = row-taken 2310 _ _ _ (sym (c .before .pre .1) ∙ c .if1 .left)
+taken : (c : tie.Else1) → RowTaken 2310 (c .before .before .args .bytes) (c .before .before .args .window .now) (c .before .before .args .location)
+taken c = row-taken 2310 _ _ _ (sym (c .before .before .pre .1) ∙ c .if1 .left)
 
 mul-from : tie.Need-mul-from
 mul-from c =
@@ -67,8 +68,9 @@ part-result-end c =
     omega arith
 
 returns-2 : tie.Need-returns-2
+unfolding samplesAt
 returns-2 c =
-    rw (samples-done _ _ _ (sym (c .before .before .pre .1) ∙ c .before .if1 .left)) (simp add-sub-cancel-left)
+    rw (samples-done _ _ _ (sym (c .before .before .before .pre .1) ∙ c .before .if1 .left)) (simp add-sub-cancel-left)
 
 pub samples-of-spec : {M : Type 1} → statement M
 samples-of-spec =

@@ -6,15 +6,15 @@ use borrow.Author.Needs.{needs}
 use Rattle.parts.proofs.samples_refusal.Statement.{statement}
 use Rattle.parts.proofs.samples_refusal.Tie as tie
 
-is-within-requires : tie.Need-is-within-requires
-is-within-requires c κs = search needs
+refusal-requires : tie.Need-refusal-requires
+refusal-requires c κs = search needs
 
 refusal-of-requires : tie.Need-refusal-of-requires
 refusal-of-requires c κs = search needs
 
 returns : tie.Need-returns
 unfolding rowRefusal
-returns c = c .refusal-of .ensures ∙ rw (c .before .is-within .ensures)
+returns c = c .refusal-of .ensures ∙ rw (c .before .refusal .ensures)
 
 pub samples-refusal-spec : {M : Type 1} → statement M
-samples-refusal-spec = tie.close (tie.spec is-within-requires refusal-of-requires returns)
+samples-refusal-spec = tie.close (tie.spec refusal-requires refusal-of-requires returns)

@@ -3,6 +3,7 @@
 use mathlib.Core.Path.{sym, _∙_}
 use native.Mathlib.Nat.{add-sub-cancel-left}
 use native.Mathlib.Omega.{arith}
+use Rattle.parts.specs.Part.{symbolsAt}
 use Rattle.parts.proofs.Taken.{RowTaken, row-taken, symbols-done, symbols-none}
 use borrow.Author.Needs.{needs}
 use Rattle.parts.proofs.symbols_of.Statement.{statement}
@@ -12,10 +13,10 @@ slice-aggregate-result : tie.Need-slice-aggregate-result
 slice-aggregate-result c = search needs
 
 returns : tie.Need-returns
-returns c = sym (symbols-none _ _ _ (λ e. c .before .if1 .taken (c .before .before .pre .1 ∙ e)))
+returns c = sym (symbols-none _ _ _ (λ e. c .before .if1 .taken (c .before .before .before .pre .1 ∙ e)))
 
-taken : (c : tie.Else1) → RowTaken 576 (c .before .args .bytes) (c .before .args .row .now) (c .before .args .place)
-taken c = row-taken 576 _ _ _ (sym (c .before .pre .1) ∙ c .if1 .left)
+taken : (c : tie.Else1) → RowTaken 576 (c .before .before .args .bytes) (c .before .before .args .row .now) (c .before .before .args .location)
+taken c = row-taken 576 _ _ _ (sym (c .before .before .pre .1) ∙ c .if1 .left)
 
 mul-from : tie.Need-mul-from
 mul-from c =
@@ -57,8 +58,9 @@ part-result-end c =
     omega arith
 
 returns-2 : tie.Need-returns-2
+unfolding symbolsAt
 returns-2 c =
-    rw (symbols-done _ _ _ (sym (c .before .before .pre .1) ∙ c .before .if1 .left)) (simp add-sub-cancel-left)
+    rw (symbols-done _ _ _ (sym (c .before .before .before .pre .1) ∙ c .before .if1 .left)) (simp add-sub-cancel-left)
 
 pub symbols-of-spec : {M : Type 1} → statement M
 symbols-of-spec =

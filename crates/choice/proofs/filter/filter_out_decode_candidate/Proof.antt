@@ -1,4 +1,4 @@
--- `choice::filter::filter_out_decode_candidate` meets its contract: the settings' refusal, or what the filter says.
+-- `choice::filter::filter_out_decode_candidate` meets its contract: a refusal, or what the filter says.
 -- Assumes nothing.
 use mathlib.Core.Path.{_∙_, ap}
 use Rattle.lists.specs.Told.{done}
@@ -8,19 +8,19 @@ use borrow.Author.Needs.{needs}
 use Rattle.choice.proofs.filter.filter_out_decode_candidate.Statement.{statement}
 use Rattle.choice.proofs.filter.filter_out_decode_candidate.Tie as tie
 
-check-settings-requires : tie.Need-check-settings-requires
-check-settings-requires c κs = search needs
+filter-number-requires : tie.Need-filter-number-requires
+filter-number-requires c κs = search needs
 
 returns : tie.Need-returns
 unfolding filteredOf
-returns c = told-refused _ (c .before .check-settings .ensures) (c .if1 .taken)
+returns c = told-refused _ (c .before .filter-number .ensures) (c .if1 .taken)
 
 is-dropped-requires : tie.Need-is-dropped-requires
 is-dropped-requires c κs = search needs
 
 returns-2 : tie.Need-returns-2
 unfolding filteredOf
-returns-2 c = ap done (c .is-dropped .ensures) ∙ told-done _ (c .before .before .check-settings .ensures) (c .before .if1 .left)
+returns-2 c = ap done (c .is-dropped .ensures) ∙ told-done _ (c .before .before .filter-number .ensures) (c .before .if1 .left)
 
 pub filter-out-decode-candidate-spec : {M : Type 1} → statement M
-filter-out-decode-candidate-spec = tie.close (tie.spec check-settings-requires returns is-dropped-requires returns-2)
+filter-out-decode-candidate-spec = tie.close (tie.spec filter-number-requires returns is-dropped-requires returns-2)

@@ -9,7 +9,7 @@ use mathlib.Core.List.{List}
 use mathlib.Core.Logic.{_≢_}
 use Prim.Native.Nat.{ℕ, _≤_}
 use native.Mathlib.Omega.{arith}
-use borrow.Author.Tests.{eqb-true, leb-true, ne-eqb}
+use borrow.Author.Tests.{eqb-true, ne-eqb}
 use lib.Dec.{eqb, leb}
 use lib.ListN.{length}
 use Rattle.annex10.specs.Remainder.{remainder}
@@ -20,28 +20,31 @@ use Rattle.annex10.specs.declared.Found.the-variants.{At, Nothing}
 use Rattle.annex10.specs.declared.Repairs.{Repairs}
 use Rattle.annex10.specs.declared.Repairs.the-variants.{None}
 use Rattle.annex10.proofs.Repairing.{pattern-none}
+use Rattle.place.specs.declared.Place.{Place}
+use Rattle.place.specs.All.{listed}
+use Rattle.place.proofs.Within.{listed-gives}
 use Rattle.streams.specs.Streams.{messageAt}
 use Rattle.search.specs.Kinds.{long}
 use Rattle.receiver.specs.Tries.{tryNumber}
 use Rattle.receiver.specs.Inner.{Streams, Finds, Known}
 
-module _ (level : ℕ) (coherent noncoherent : List ℕ) (bit : ℕ) where
+module _ (level : ℕ) (coherent noncoherent : List ℕ) (p : Place) where
   pub record TryTaken : Type 0 where
     pub size : length coherent ≡ 18
     pub other : length noncoherent ≡ 18
-    pub low : bit ≤ 32
+    pub low : p .bit ≤ 32
 
-  tested : (t u v w : Bool) → eqb (length coherent) 18 ≡ t → eqb (length noncoherent) 18 ≡ u → leb bit 32 ≡ w
+  tested : (t u v w : Bool) → eqb (length coherent) 18 ≡ t → eqb (length noncoherent) 18 ≡ u → listed 31 p ≡ w
       → _≡_ {A = ℕ} (cond t (cond u (cond v (cond w 0 7) 4) 2) 2) 0 → TryTaken
-  tested true true true true p q s e = record { size = eqb-true _ _ p; other = eqb-true _ _ q; low = leb-true _ _ s }
-  tested true true true false p q s e = absurd (omega arith)
-  tested true true false w p q s e = absurd (omega arith)
-  tested true false v w p q s e = absurd (omega arith)
-  tested false u v w p q s e = absurd (omega arith)
+  tested true true true true a b s e = record { size = eqb-true _ _ a; other = eqb-true _ _ b; low = omega (arith, listed-gives 31 p s .to) }
+  tested true true true false a b s e = absurd (omega arith)
+  tested true true false w a b s e = absurd (omega arith)
+  tested true false v w a b s e = absurd (omega arith)
+  tested false u v w a b s e = absurd (omega arith)
 
-  pub try-opened : {k : ℕ} → k ≡ tryNumber level coherent noncoherent bit → k ≡ 0 → TryTaken
+  pub try-opened : {k : ℕ} → k ≡ tryNumber level coherent noncoherent p → k ≡ 0 → TryTaken
   unfolding tryNumber
-  try-opened e z = tested (eqb (length coherent) 18) (eqb (length noncoherent) 18) (leb level 2) (leb bit 32) refl refl refl (sym e ∙ z)
+  try-opened e z = tested (eqb (length coherent) 18) (eqb (length noncoherent) 18) (leb level 2) (listed 31 p) refl refl refl (sym e ∙ z)
 
 module _ (crc : ℕ) where
   pub by-none : crc ≡ 0 → At None ≡ clearingAny 14 crc

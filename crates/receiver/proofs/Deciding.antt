@@ -19,9 +19,9 @@ use lib.ListN.{length, take}
 use lib.Ieee.{Float}
 use Rattle.annex10.proofs.Repairing.{length-repaired}
 use Rattle.place.specs.declared.Place.{Place}
+use Rattle.place.specs.declared.location.Location.{Location}
 use Rattle.place.specs.Step.{sampleStart}
 use Rattle.place.specs.All.{listed}
-use Rattle.place.proofs.All.{member-listed}
 use Rattle.timing.specs.declared.Timing.{Timing}
 use Rattle.timing.specs.Subsample.{fractionOf}
 use Rattle.timing.specs.Inner.{movesCount}
@@ -43,9 +43,11 @@ use Rattle.search.specs.Kinds.{Kind, placesOf, long, short}
 use Rattle.search.specs.Seen.{row, bitsAt, promptAt, windowOf, seen}
 use Rattle.search.specs.When.{promptOf, about, timingAt, indexOf}
 use Rattle.floats.specs.Numbers.{zeroF}
-use Rattle.search.specs.Answers.{orNumber, windowNumber, settingsNumber, indexNumber, placeNumber, noCandidate, refusedAnswer, survivorOf, survivorOr, readAt, bestOf, arrivalAt, answered, decodeOf}
+use Rattle.search.specs.Answers.{orNumber, windowNumber, settingsNumber, indexNumber, placeNumber, searchedNumber, noCandidate, refusedAnswer, survivorOf, survivorOr, readAt, bestOf, arrivalAt, answered, decodeOf}
 use Rattle.search.proofs.Scanning.{scan-from, survivor-is, not-some}
-use Rattle.receiver.specs.Inner.{heldOf, powerIn, seenIn, arrivalIn, Weighed, cutAnswer, answerIn}
+use Rattle.search.proofs.Locating.{sited-taken, best-sited}
+use Rattle.receiver.specs.Inner.{heldOf, Searched, powerIn, seenIn, arrivalIn, Weighed, cutAnswer, answerIn}
+use Rattle.receiver.proofs.EitherKind.{Right, within-listed}
 use Rattle.receiver.proofs.Prompting.{timing-seen}
 use Rattle.receiver.proofs.Widening.{Fit, unpadded, answer-long, answer-short}
 
@@ -108,13 +110,14 @@ module _ (k : Kind) (samples : List Float) {n : ℕ} (z : n ≡ 0) where
       let (l, h) = index-taken index d in
       (record { whole = window-taken samples a; settings = c }, l, h)
 
-  pub time-taken : (p : Place) (index : ℕ) → n ≡ orNumber (windowNumber samples) (orNumber (indexNumber index) (placeNumber k p))
-      → (length samples ≡ 2310) × (listed (k .last) p ≡ true) × (128 ≤ index) × (index ≤ 2 ^ 63)
-  time-taken p index e =
+  pub time-taken : (l : Location) (index : ℕ) → n ≡ orNumber (windowNumber samples) (orNumber (indexNumber index) (searchedNumber k l))
+      → (length samples ≡ 2310) × Searched k l × (128 ≤ index) × (index ≤ 2 ^ 63)
+  time-taken l index e =
       let (a, b) = or-zero _ _ (sym e ∙ z) in
       let (c, d) = or-zero _ _ b in
-      let (l, h) = index-taken index c in
-      (window-taken samples a, place-taken k p d, l, h)
+      let (f, g) = or-zero _ _ d in
+      let (i, h) = index-taken index c in
+      (window-taken samples a, record { place = place-taken k (l .place) f; taken = g }, i, h)
 
 -- ---- what a search found
 
@@ -124,56 +127,63 @@ read-none k (some c) e z = absurd (z (ap (λ (r : Survivor). r .number) e))
 
 -- what a candidate at a place is
 record Filled (w : Window) (k : Kind) (a : Candidate) : Type 0 where
-  at : listed (k .last) (a .place) ≡ true
   size : length (a .message) ≡ k .bytes
-  power : a .prompt ≡ w .prompt (a .place) (a .message)
+  power : a .prompt ≡ w .prompt (a .location .place) (a .message)
 
-filled : (k : Kind) (s : Settings) (samples : List Float) (p : Place) {a : Candidate} → listed (k .last) p ≡ true
+filled : (k : Kind) (s : Settings) (samples : List Float) (p : Place) {a : Candidate}
     → candidateAt k s (seen k samples) p ≡ some a → Filled (seen k samples) k a
 unfolding candidateAt candidate windowOf bitsAt
-filled k s samples p h e =
-    let v = survivor-is s (seen k samples) p _ e in
+filled k s samples p e =
+    let v = survivor-is s (seen k samples) _ e in
     subst (Filled (seen k samples) k) (v .is)
-    (record { at = h; size = length-repaired _ _ ∙ message-length _ (k .bytes) (p .bit); power = refl })
+    (record { size = length-repaired _ _ ∙ message-length _ (k .bytes) (v .of .place .bit); power = refl })
 
 best-filled : (k : Kind) (s : Settings) (samples : List Float) {a : Candidate} → best k s (seen k samples) ≡ some a → Filled (seen k samples) k a
 unfolding best
 best-filled k s samples e = elim (scan-from (candidateAt k s (seen k samples)) (placesOf k) none e) [
   | inl q ↦ not-some q
-  | inr q ↦ filled k s samples (q .0) (member-listed (k .last) (q .0) (q .1)) (q .2)
+  | inr q ↦ filled k s samples (q .0) (q .2)
 ]
 
-found-there : (k : Kind) (s : Settings) (samples : List Float) (o : Option Candidate) {x : Survivor} → best k s (seen k samples) ≡ o → x ≡ heldOf k o
+best-searched : (k : Kind) → Right k → (s : Settings) (w : Window) {a : Candidate} → best k s w ≡ some a → Searched k (a .location)
+best-searched k r s w {a} e =
+    let (p, h, t) = best-sited k (r .makes) s w e in
+    record { place = subst (λ (q : Place). listed (k .last) q ≡ true) (sym (t .place)) h; taken = sited-taken k p (a .location) t (within-listed k r p h) }
+
+found-there : (k : Kind) → Right k → (s : Settings) (samples : List Float) (o : Option Candidate) {x : Survivor} → best k s (seen k samples) ≡ o → x ≡ heldOf k o
     → Weighed k (symbolsOf samples) x
 unfolding windowOf promptAt powerIn row
-found-there k s samples none b e = record { place = λ z. absurd (omega (arith, ap (λ (r : Survivor). r .number) e)); power = λ z. absurd (omega (arith, ap (λ (r : Survivor). r .number) e)) }
-found-there k s samples (some c) b e =
+found-there k r s samples none b e = record { at = λ z. absurd (omega (arith, ap (λ (x : Survivor). x .number) e)); power = λ z. absurd (omega (arith, ap (λ (x : Survivor). x .number) e)) }
+found-there k r s samples (some c) b e =
     let f = best-filled k s samples b in
     subst (Weighed k (symbolsOf samples)) (sym e)
-    (record { place = λ z. f .at; power = λ z. f .power ∙ ap (powerIn k (symbolsOf samples) (c .place)) (sym (unpadded k (c .message) (f .size))) })
+    (record {
+      at = λ z. best-searched k r s (seen k samples) b;
+      power = λ z. f .power ∙ ap (powerIn k (symbolsOf samples) (c .location .place)) (sym (unpadded k (c .message) (f .size)));
+    })
 
 -- a message of its kind
 pub best-fit : (k : Kind) (s : Settings) (samples : List Float) → Fit k (best k s (seen k samples))
 best-fit k s samples = record { size = λ c e. best-filled k s samples e .size }
 
-pub place-fit : (k : Kind) (s : Settings) (samples : List Float) (p : Place) → listed (k .last) p ≡ true → Fit k (candidateAt k s (seen k samples) p)
-place-fit k s samples p h = record { size = λ c e. filled k s samples p h e .size }
+pub place-fit : (k : Kind) (s : Settings) (samples : List Float) (p : Place) → Fit k (candidateAt k s (seen k samples) p)
+place-fit k s samples p = record { size = λ c e. filled k s samples p e .size }
 
 -- what is found lies at one of the places, and has its power there
-best-weighed : (k : Kind) (s : Settings) (samples symbols : List Float) {x : Survivor} → x ≡ heldOf k (best k s (seen k samples)) → symbols ≡ symbolsOf samples
+best-weighed : (k : Kind) → Right k → (s : Settings) (samples symbols : List Float) {x : Survivor} → x ≡ heldOf k (best k s (seen k samples)) → symbols ≡ symbolsOf samples
     → Weighed k symbols x
-best-weighed k s samples symbols e q = rw q (found-there k s samples (best k s (seen k samples)) refl e)
+best-weighed k r s samples symbols e q = rw q (found-there k r s samples (best k s (seen k samples)) refl e)
 
 -- ---- timing
 
-pub moves-few : (w : Window) (message : List ℕ) (s : ℕ) {t : Timing} → t ≡ timingAt w message s → movesCount (t .moves) ≤ 2
+pub moves-few : (w : Window) (message : List ℕ) (l : Location) {t : Timing} → t ≡ timingAt w message l → movesCount (t .moves) ≤ 2
 unfolding timingAt
-moves-few w message s e = rw e (few-moves (fractionOf (about w message (promptOf w message s)) (promptOf w message s .offset)))
+moves-few w message l e = rw e (few-moves (fractionOf (about w message (promptOf w message l)) (promptOf w message l .offset)))
 
-pub timed-is : (k : Kind) (symbols : List Float) (p : Place) (message : List ℕ) (index : ℕ) {t : Timing} {i : ℕ} → t ≡ timingAt (seenIn k symbols) message (sampleStart p)
-    → i ≡ indexOf index (sampleStart p) (t .moves) → record { number = 0; index = i; fraction = t .fraction } ≡ arrivalIn k symbols p message index
+pub timed-is : (k : Kind) (symbols : List Float) (l : Location) (message : List ℕ) (index : ℕ) {t : Timing} {i : ℕ} → t ≡ timingAt (seenIn k symbols) message l
+    → i ≡ indexOf index (sampleStart (l .place)) (t .moves) → record { number = 0; index = i; fraction = t .fraction } ≡ arrivalIn k symbols l message index
 unfolding arrivalIn
-timed-is k symbols p message index et ei = rw (ei, et)
+timed-is k symbols l message index et ei = rw (ei, et)
 
 -- ---- what is found, with its time
 
@@ -190,7 +200,7 @@ module _ (k : Kind) (sums : List Float) (x : Survivor) where
   message = x .candidate .message
 
   pub weighed-there : {b : ℕ} {symbols : List Float} → Weighed k (symbolsIn sums) x → x .number ≡ 0 → b ≡ k .bytes → symbols ≡ symbolsIn sums
-      → x .candidate .prompt ≡ powerIn k symbols (x .candidate .place) (take b message)
+      → x .candidate .prompt ≡ powerIn k symbols (x .candidate .location .place) (take b message)
   weighed-there w z e m = rw (m, e) (w .power z)
 
   pub answer-none : (index : ℕ) {r : Answer} → x .number ≢ 0 → r ≡ refusedAnswer long 1 → r ≡ answerIn k (symbolsIn sums) index x
@@ -198,8 +208,8 @@ module _ (k : Kind) (sums : List Float) (x : Survivor) where
   answer-none index h e = rw (ne-eqb (x .number) 0 h) e
 
   pub answer-timed : (index : ℕ) {b : ℕ} {symbols : List Float} {t : Arrival} → x .number ≡ 0 → b ≡ k .bytes → symbols ≡ symbolsIn sums
-      → t ≡ arrivalIn k symbols (x .candidate .place) (take b message) index
-      → (let c = x .candidate in record { number = 0; place = c .place; message = message; repairs = c .repairs; slicer = c .slicer; cn0 = c .cn0; index = t .index; fraction = t .fraction; undecided = c .undecided })
+      → t ≡ arrivalIn k symbols (x .candidate .location) (take b message) index
+      → (let c = x .candidate in record { number = 0; location = c .location; message = message; cn0 = c .cn0; index = t .index; fraction = t .fraction; undecided = c .undecided })
       ≡ answerIn k (symbolsIn sums) index x
   unfolding answerIn
   answer-timed index z e m et = rw (eq-eqb (x .number) 0 z, et, e, m)
@@ -227,16 +237,16 @@ module _ (k : Kind) (samples : List Float) {n : ℕ} where
   unfolding bestOf survivorOr
   best-done s e z ex = rw (← e, eq-eqb n 0 z) ex
 
-  pub time-refused : (p : Place) (message : List ℕ) (index : ℕ) → n ≡ orNumber (windowNumber samples) (orNumber (indexNumber index) (placeNumber k p))
-      → n ≢ 0 → record { number = n; index = 0; fraction = zeroF } ≡ arrivalAt k samples p message index
+  pub time-refused : (l : Location) (message : List ℕ) (index : ℕ) → n ≡ orNumber (windowNumber samples) (orNumber (indexNumber index) (searchedNumber k l))
+      → n ≢ 0 → record { number = n; index = 0; fraction = zeroF } ≡ arrivalAt k samples l message index
   unfolding arrivalAt
-  time-refused p message index e h = rw (← e, ne-eqb n 0 h)
+  time-refused l message index e h = rw (← e, ne-eqb n 0 h)
 
-  pub time-done : (p : Place) (message : List ℕ) (index : ℕ) {symbols : List Float} {x : Arrival}
-      → n ≡ orNumber (windowNumber samples) (orNumber (indexNumber index) (placeNumber k p))
-      → n ≡ 0 → symbols ≡ symbolsOf samples → x ≡ arrivalIn k symbols p message index → x ≡ arrivalAt k samples p message index
+  pub time-done : (l : Location) (message : List ℕ) (index : ℕ) {symbols : List Float} {x : Arrival}
+      → n ≡ orNumber (windowNumber samples) (orNumber (indexNumber index) (searchedNumber k l))
+      → n ≡ 0 → symbols ≡ symbolsOf samples → x ≡ arrivalIn k symbols l message index → x ≡ arrivalAt k samples l message index
   unfolding arrivalAt arrivalIn
-  time-done p message index e z m ex = rw (← e, eq-eqb n 0 z) (ex ∙ rw (m, timing-seen k samples message (sampleStart p)))
+  time-done l message index e z m ex = rw (← e, eq-eqb n 0 z) (ex ∙ rw (m, timing-seen k samples message l))
 
   pub decode-refused : (s : Settings) (index : ℕ) {x : Answer} → n ≡ orNumber (windowNumber samples) (orNumber (settingsNumber s) (indexNumber index))
       → n ≢ 0 → x ≡ refusedAnswer k n → x ≡ decodeOf k samples s index
@@ -258,11 +268,11 @@ module _ (samples : List Float) (s : Settings) (index : ℕ) {n : ℕ} {sums : L
   window-symbols : symbolsIn sums ≡ symbolsOf samples
   window-symbols = ap symbolsIn q ∙ symbols-in samples
 
-  pub answer-asks : (k : Kind) {x : Survivor} → x ≡ heldOf k (best k s (seen k samples))
+  pub answer-asks : (k : Kind) → Right k → {x : Survivor} → x ≡ heldOf k (best k s (seen k samples))
       → (length sums ≡ 2304) × (128 ≤ index) × (index ≤ 2 ^ 63) × Weighed k (symbolsIn sums) x
-  answer-asks k ex =
+  answer-asks k r ex =
       let t = decode-taken k samples z s index e in
-      (ap length q ∙ sums-length samples, t .1, t .2, best-weighed k s samples (symbolsIn sums) ex window-symbols)
+      (ap length q ∙ sums-length samples, t .1, t .2, best-weighed k r s samples (symbolsIn sums) ex window-symbols)
 
   pub decoded-long : {x : Survivor} {r : Answer} → x ≡ heldOf long (best long s (seen long samples)) → r ≡ answerIn long (symbolsIn sums) index x
       → r ≡ decodeOf long samples s index

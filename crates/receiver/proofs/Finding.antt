@@ -24,6 +24,7 @@ use Rattle.annex10.specs.declared.Found.{Found}
 use Rattle.place.specs.declared.Place.{Place}
 use Rattle.place.specs.declared.Slicer.{Slicer}
 use Rattle.place.specs.declared.Slicer.the-variants.{Coherent, Noncoherent}
+use Rattle.place.specs.declared.location.Location.{Location}
 use Rattle.parts.specs.Part.{chosen}
 use Rattle.place.specs.Step.{sampleStart}
 use Rattle.place.specs.All.{listed, placeAt}
@@ -37,12 +38,12 @@ use Rattle.scan.specs.Lanes.{laneBytes}
 use Rattle.scan.proofs.Comparing.{scanned-done, both-done}
 use Rattle.scan.proofs.Starting.{bits-start, stream-lane, digits-of}
 use Rattle.search.specs.declared.Settings.{Settings}
-use Rattle.search.specs.declared.Reading.{Reading}
 use Rattle.search.specs.declared.Tried.{Tried}
 use Rattle.search.specs.declared.Tried.the-variants.{Pass, Fail}
 use Rattle.search.specs.declared.Candidate.{Candidate}
 use Rattle.search.specs.declared.Survivor.{Survivor}
 use Rattle.search.specs.Trials.{reading}
+use Rattle.search.proofs.Passing.{Passes, sound}
 use Rattle.search.specs.Choice.{candidate, dropped, survivor, candidateAt, scan, best}
 use Rattle.search.specs.Window.{Window, unmarked}
 use Rattle.search.specs.Kinds.{Kind, long, short}
@@ -144,29 +145,35 @@ module _ (k : Kind) (samples : List Float) (p : Place) where
   same-bits Coherent = refl
   same-bits Noncoherent = refl
 
-  same-candidate : (r : Reading) → candidate here p r ≡ candidate (unmarked (seen k samples)) p r
+  same-candidate : (r : Location) → r .place ≡ p → candidate here r ≡ candidate (unmarked (seen k samples)) r
   unfolding candidate seenAt windowOf bitsAt promptAt noiseAt
-  same-candidate r = rw (same-bits (r .slicer))
+  same-candidate r e = rw (e, same-bits (r .slicer))
 
-  same-distance : here .distance p ≡ seen k samples .distance p
+  same-distance : (r : Location) → r .place ≡ p → here .distance (r .place) ≡ seen k samples .distance (r .place)
   unfolding seenAt windowOf bitsAt
-  same-distance = refl
+  same-distance r e = rw e
 
-  same-survivor : (s : Settings) (t : Tried) → survivor s here p t ≡ survivor s (unmarked (seen k samples)) p t
+  same-survivor : (s : Settings) (t : Tried) → Passes (λ r. r .place ≡ p) t → survivor s here t ≡ survivor s (unmarked (seen k samples)) t
   unfolding survivor
-  same-survivor s Fail = refl
-  same-survivor s (Pass r) =
-      ap (λ (c : Candidate). cond (dropped s (here .distance p) c) none (some c)) (same-candidate r)
-      ∙ ap (λ (d : ℕ). cond (dropped s d (candidate (unmarked (seen k samples)) p r)) none (some (candidate (unmarked (seen k samples)) p r))) same-distance
+  same-survivor s Fail h = refl
+  same-survivor s (Pass r) h =
+      let e = h .so r refl in
+      ap (λ (c : Candidate). cond (dropped s (here .distance (r .place)) c) none (some c)) (same-candidate r e)
+      ∙ ap (λ (d : ℕ). cond (dropped s d (candidate (unmarked (seen k samples)) r)) none (some (candidate (unmarked (seen k samples)) r))) (same-distance r e)
 
-  same-reading : (level : ℕ) → reading k level (here .bits Coherent p) (here .bits Noncoherent p)
-      ≡ reading k level (seen k samples .bits Coherent p) (seen k samples .bits Noncoherent p)
+  same-reading : (level : ℕ) → reading k level p (here .bits Coherent p) (here .bits Noncoherent p)
+      ≡ reading k level p (seen k samples .bits Coherent p) (seen k samples .bits Noncoherent p)
   unfolding seenAt windowOf bitsAt
   same-reading level = refl
 
+  at-place : (level : ℕ) (c d : List ℕ) → Passes (λ r. r .place ≡ p) (reading k level p c d)
+  at-place level c d = record { so = λ r e. sound k level p c d .so r e .place }
+
   pub seen-there : (s : Settings) → candidateAt k s here p ≡ candidateAt k s (unmarked (seen k samples)) p
   unfolding candidateAt
-  seen-there s = same-survivor s _ ∙ ap (survivor s (unmarked (seen k samples)) p) (same-reading (min (s .level) (k .most)))
+  seen-there s =
+      same-survivor s _ (at-place (min (s .level) (k .most)) (here .bits Coherent p) (here .bits Noncoherent p))
+      ∙ ap (survivor s (unmarked (seen k samples))) (same-reading (min (s .level) (k .most)))
 
 -- ---- the remainder of a place
 

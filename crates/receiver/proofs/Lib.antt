@@ -14,3 +14,4 @@ pub mod Kept
 pub mod Listed
 pub mod Stages
 pub mod Repaired
+pub mod Taking

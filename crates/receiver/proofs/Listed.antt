@@ -29,11 +29,10 @@ use Rattle.search.specs.declared.Survivor.{Survivor}
 use Rattle.search.specs.Choice.{beats, better, scan}
 use Rattle.search.specs.Kinds.{Kind, long}
 use Rattle.search.specs.Answers.{survivorOf}
-use Rattle.choice.specs.Chosen.{takesOver, chosenSurvivor}
 use Rattle.scan.specs.Sieve.{kept, laneOf, onto}
 use Rattle.scan.proofs.Starting.{place-start}
 use Rattle.scan.proofs.Keeping.{below}
-use Rattle.receiver.specs.Inner.{heldOf, Finds, foundInside, repairsOf, foundOf, foundBy, over}
+use Rattle.receiver.specs.Inner.{heldOf, takesOver, chosenSurvivor, Finds, foundInside, repairsOf, foundOf, foundBy, over}
 use Rattle.receiver.proofs.Kept.{over-more, scan-kept}
 use Rattle.receiver.proofs.EitherKind.{Right}
 

@@ -2,9 +2,10 @@
 --     room            a place that is searched has two places either way
 --     listed-most     its bit offset is at most 87
 --     back, on        a step back and a step on
---     around-is       the powers around a place
---     timed-by        the powers around a place say its timing
+--     around-is       the powers around a location
+--     timed-by        they say its timing
 --     earlier-is, later-is, at-done    what a step answers
+--     back-taken, on-taken             a neighbour is taken where the location is
 -- Assumes nothing.
 use mathlib.Core.Path.{_≡_, refl, sym, ap, _∙_}
 use mathlib.Core.Bool.{Bool, true, false, cond}
@@ -16,20 +17,23 @@ use lib.ListN.{length}
 use lib.Ieee.{Float, lt}
 use Rattle.lists.specs.Told.{done}
 use Rattle.place.specs.declared.Place.{Place}
-use Rattle.place.specs.declared.Stepped.{Stepped}
-use Rattle.place.specs.declared.Stepped.the-variants.{To}
-use Rattle.place.specs.Step.{sampleStart, startingAt, lastSymbol, within, steppedTold, earlierOf, laterOf}
+use Rattle.place.specs.declared.location.Location.{Location}
+use Rattle.place.specs.declared.location.Neighbour.{Neighbour}
+use Rattle.place.specs.declared.location.Neighbour.the-variants.{At}
+use Rattle.place.specs.Step.{sampleStart, startingAt, lastSymbol}
+use Rattle.place.specs.Agrees.{locationNumber, neighbourTold, earlierLocation, laterLocation}
 use Rattle.place.specs.All.{listed, placeAt, listedAt}
-use Rattle.place.proofs.Told.{steppedUntold, stepped-back}
-use Rattle.place.proofs.Within.{within-gives, within-is, listed-gives, listed-is}
-use Rattle.place.proofs.Steps.{own-start, start-of, starting-within, earlier-to, later-to, listed-within, listed-room}
+use Rattle.place.proofs.Told.{neighbourUntold, neighbour-back}
+use Rattle.place.proofs.Within.{listed-gives, listed-is}
+use Rattle.place.proofs.Steps.{own-start, start-of, listed-room}
+use Rattle.place.proofs.Agreeing.{located-gives, earlier-carried, later-carried, earlier-kept, later-kept}
 use Rattle.math.specs.Parabola.{parabola}
 use Rattle.timing.specs.declared.Timing.{Timing}
 use Rattle.timing.specs.Subsample.{fractionOf, timingOf}
 use Rattle.timing.specs.declared.Offset.{Offset}
 use Rattle.timing.specs.declared.Offset.the-variants.{Same, Earlier, Later}
 use Rattle.search.specs.declared.Prompt.{Prompt}
-use Rattle.search.specs.When.{lookAt, over, promptOf, about, timingAt}
+use Rattle.search.specs.When.{startedAt, lookAt, over, promptOf, about, timingAt}
 use Rattle.search.specs.Kinds.{Kind}
 use Rattle.search.specs.Seen.{seen, windowOf, promptAt, row}
 use Rattle.kernels.specs.declared.around.Around.{Around}
@@ -74,22 +78,15 @@ module _ (k : Kind) (w : Right k) where
   abbrev pub lastStart : ℕ
   lastStart = 4 * lastSymbol n + 3
 
-  starts : (t : ℕ) → t ≤ lastStart → within n (startingAt t) ≡ true
-  starts t h = within-is n (startingAt t) (starting-within n t h)
-
   pub record Room (p : Place) : Type 0 where
-    pub within-it : within n p ≡ true
     pub low : 2 ≤ sampleStart p
     pub high : sampleStart p + 2 ≤ lastStart
-    pub own : startingAt (sampleStart p) ≡ p
 
   pub room : (p : Place) → listed (k .last) p ≡ true → Room p
   room p h =
       let e : k .last ≡ 143 - 8 * n = omega (arith, w .last) in
-      let g : listed (143 - 8 * n) p ≡ true = rw (← e) h in
-      let v = listed-within n p (omega (arith, w .high)) g in
-      let r = listed-room n p (omega (arith, w .high)) g in
-      record { within-it = within-is n p v; low = r .0; high = r .1; own = own-start p (v .phase) (v .symbol) }
+      let r = listed-room n p (omega (arith, w .high)) (rw (← e) h) in
+      record { low = r .0; high = r .1 }
 
   -- one of the places of either kind
   pub listed-most : (p : Place) → listed (k .last) p ≡ true → listed 87 p ≡ true
@@ -99,17 +96,18 @@ module _ (k : Kind) (w : Right k) where
 
   -- ---- a step
 
-  pub earlier-is : (p : Place) (s : Stepped) → within n p ≡ true → 0 < sampleStart p → steppedTold s ≡ earlierOf n p → s ≡ To (startingAt (sampleStart p - 1))
-  earlier-is p s v h e = sym (stepped-back s) ∙ ap steppedUntold (e ∙ earlier-to n p (within-gives n p v) h)
+  module _ (l : Location) (s : Neighbour) (t : locationNumber n l ≡ 0) where
+    pub earlier-is : 0 < sampleStart (l .place) → neighbourTold s ≡ earlierLocation n l → s ≡ At (startedAt l (sampleStart (l .place) - 1))
+    earlier-is h e = sym (neighbour-back s) ∙ ap neighbourUntold (e ∙ earlier-carried n l (located-gives n l t) h)
 
-  pub later-is : (p : Place) (s : Stepped) → within n p ≡ true → sampleStart p < lastStart → steppedTold s ≡ laterOf n p → s ≡ To (startingAt (sampleStart p + 1))
-  later-is p s v h e = sym (stepped-back s) ∙ ap steppedUntold (e ∙ later-to n p (within-gives n p v) h)
+    pub later-is : sampleStart (l .place) < lastStart → neighbourTold s ≡ laterLocation n l → s ≡ At (startedAt l (sampleStart (l .place) + 1))
+    later-is h e = sym (neighbour-back s) ∙ ap neighbourUntold (e ∙ later-carried n l (located-gives n l t) h)
 
-  pub back-within : (p : Place) → within n p ≡ true → within n (startingAt (sampleStart p - 1)) ≡ true
-  back-within p e = let v = within-gives n p e in starts (sampleStart p - 1) (omega arith)
+  pub back-taken : (l : Location) → locationNumber n l ≡ 0 → 0 < sampleStart (l .place) → locationNumber n (startedAt l (sampleStart (l .place) - 1)) ≡ 0
+  back-taken l t h = earlier-kept n l (startedAt l (sampleStart (l .place) - 1)) (earlier-carried n l (located-gives n l t) h) .taken
 
-  pub on-within : (p : Place) → sampleStart p < lastStart → within n (startingAt (sampleStart p + 1)) ≡ true
-  on-within p h = starts (sampleStart p + 1) (omega arith)
+  pub on-taken : (l : Location) → locationNumber n l ≡ 0 → sampleStart (l .place) < lastStart → locationNumber n (startedAt l (sampleStart (l .place) + 1)) ≡ 0
+  on-taken l t h = later-kept n l (startedAt l (sampleStart (l .place) + 1)) (later-carried n l (located-gives n l t) h) .taken
 
   -- ---- the powers around a place say its timing
 
@@ -120,40 +118,54 @@ module _ (k : Kind) (w : Right k) where
     abbrev power : ℕ → Float
     power s = powerIn k symbols (startingAt s) message
 
-    looked-at : (s : ℕ) (offset : Offset) → timed (lookAt (seenIn k symbols) message s offset)
+    -- at the location itself, and at a neighbour
+    looked-at : (l : Location) (offset : Offset) → timed (lookAt (seenIn k symbols) message l offset)
+        ≡ timingOf (fractionOf (parabola (power (sampleStart (l .place) - 1)) (powerIn k symbols (l .place) message) (power (sampleStart (l .place) + 1))) offset)
+    unfolding about lookAt seenIn
+    looked-at l offset = refl
+
+    looked-from : (l : Location) (s : ℕ) (offset : Offset) → timed (lookAt (seenIn k symbols) message (startedAt l s) offset)
         ≡ timingOf (fractionOf (parabola (power (s - 1)) (power s) (power (s + 1))) offset)
     unfolding about lookAt seenIn
-    looked-at s offset = rw (start-of s)
+    looked-from l s offset = rw (start-of s)
 
-    pub timed-by : (p : Place) {x : Float} → listed (k .last) p ≡ true → x ≡ powerIn k symbols p message
-        → timedBy x (aroundIn k symbols message (sampleStart p)) ≡ timingAt (seenIn k symbols) message (sampleStart p)
+    pub timed-by : (l : Location) {x : Float} → listed (k .last) (l .place) ≡ true → x ≡ powerIn k symbols (l .place) message
+        → timedBy x (aroundIn k symbols message (sampleStart (l .place))) ≡ timingAt (seenIn k symbols) message l
     unfolding timedBy aroundIn timingAt promptOf lookAt seenIn
-    timed-by p h e =
+    timed-by l h e =
+        let p = l .place in
         let s = sampleStart p in
         let r = room p h in
-        let x : _ ≡ power s = e ∙ ap (λ (q : Place). powerIn k symbols q message) (sym (r .own)) in
+        let g = listed-gives (k .last) p h in
+        let own : powerIn k symbols p message ≡ power s = ap (λ (q : Place). powerIn k symbols q message) (sym (own-start p (g .phase) (g .symbol))) in
         let a : s - 1 - 1 ≡ s - 2 = omega arith in
         let b : s - 1 + 1 ≡ s = omega (arith, r .low) in
         let c : s + 1 - 1 ≡ s = omega arith in
         let d : s + 1 + 1 ≡ s + 2 = omega arith in
-        rw (x, one-of (lookAt (seenIn k symbols) message s Same) (lookAt (seenIn k symbols) message (s - 1) Earlier) (lookAt (seenIn k symbols) message (s + 1) Later) timed, looked-at s Same, looked-at (s - 1) Earlier, looked-at (s + 1) Later, a, b, c, d)
+        rw (e, one-of (lookAt (seenIn k symbols) message l Same) (lookAt (seenIn k symbols) message (startedAt l (s - 1)) Earlier) (lookAt (seenIn k symbols) message (startedAt l (s + 1)) Later) timed, looked-at l Same, looked-from l (s - 1) Earlier, looked-from l (s + 1) Later, own, a, b, c, d)
 
   -- what the calls of `around` made
-  pub around-is : (symbols : List Float) (message : List ℕ) (p : Place) {q r u v : Place} {a b c d : List Float} {x : Around} → length symbols ≡ 2304
-      → listed (k .last) p ≡ true → length message ≡ n
-      → (q ≡ startingAt (sampleStart p - 1)) × (within n q ≡ true) → (r ≡ startingAt (sampleStart p + 1)) × (within n r ≡ true)
-      → (u ≡ startingAt (sampleStart q - 1)) × (within n u ≡ true) → (v ≡ startingAt (sampleStart r + 1)) × (within n v ≡ true)
-      → a ≡ partIn k w symbols u → b ≡ partIn k w symbols q → c ≡ partIn k w symbols r → d ≡ partIn k w symbols v → x ≡ aroundAt a b c d message
-      → x ≡ aroundIn k symbols message (sampleStart p)
-  unfolding aroundIn
-  around-is symbols message p {q} {r} {u} {v} l h m eq er eu ev ea eb ec ed ex =
-      let s = sampleStart p in
-      let i : sampleStart q - 1 ≡ s - 2 = omega (arith, back p (eq .0)) in
-      let j : sampleStart r + 1 ≡ s + 2 = omega (arith, on p (er .0)) in
-      around-in k w symbols message u q r v l (eu .1) (eq .1) (er .1) (ev .1) m ea eb ec ed ex
-      ∙ rw (eu .0, ev .0, i, j, eq .0, er .0)
+  module _ (symbols : List Float) (message : List ℕ) (l : Location) where
+    abbrev Back : Location → Location → Type 0
+    Back m q = (q ≡ startedAt m (sampleStart (m .place) - 1)) × (locationNumber n q ≡ 0)
+
+    abbrev On : Location → Location → Type 0
+    On m q = (q ≡ startedAt m (sampleStart (m .place) + 1)) × (locationNumber n q ≡ 0)
+
+    pub around-is : {q r u v : Location} {a b c d : List Float} {x : Around} → length symbols ≡ 2304
+        → listed (k .last) (l .place) ≡ true → length message ≡ n → Back l q → On l r → Back q u → On r v
+        → a ≡ partIn k w symbols (u .place) → b ≡ partIn k w symbols (q .place) → c ≡ partIn k w symbols (r .place) → d ≡ partIn k w symbols (v .place)
+        → x ≡ aroundAt a b c d message → x ≡ aroundIn k symbols message (sampleStart (l .place))
+    unfolding aroundIn
+    around-is {q} {r} {u} {v} z h m eq er eu ev ea eb ec ed ex =
+        let at : Location → Place = λ y. y .place in
+        let s = sampleStart (l .place) in
+        let i : sampleStart (q .place) - 1 ≡ s - 2 = omega (arith, back (l .place) (ap at (eq .0))) in
+        let j : sampleStart (r .place) + 1 ≡ s + 2 = omega (arith, on (l .place) (ap at (er .0))) in
+        around-in k w symbols message u q r v z (eu .1) (eq .1) (er .1) (ev .1) m ea eb ec ed ex
+        ∙ rw (ap at (eu .0), ap at (ev .0), i, j, ap at (eq .0), ap at (er .0))
 
 -- the window's own timing
-pub timing-seen : (k : Kind) (samples : List Float) (message : List ℕ) (s : ℕ) → timingAt (seenIn k (symbolsOf samples)) message s ≡ timingAt (seen k samples) message s
+pub timing-seen : (k : Kind) (samples : List Float) (message : List ℕ) (l : Location) → timingAt (seenIn k (symbolsOf samples)) message l ≡ timingAt (seen k samples) message l
 unfolding timingAt promptOf about lookAt seenIn windowOf promptAt powerIn row
-timing-seen k samples message s = refl
+timing-seen k samples message l = refl

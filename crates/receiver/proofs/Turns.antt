@@ -17,9 +17,10 @@ use Rattle.annex10.specs.declared.Found.the-variants.{At, Nothing}
 use Rattle.annex10.proofs.Any.{any-found, only-any}
 use Rattle.annex10.proofs.Positions.{proper-inside}
 use Rattle.annex10.proofs.Unique.{apart-14}
+use Rattle.place.specs.declared.Place.{Place}
 use Rattle.place.specs.declared.Slicer.{Slicer}
 use Rattle.place.specs.declared.Slicer.the-variants.{Coherent, Noncoherent}
-use Rattle.search.specs.declared.Reading.{Reading}
+use Rattle.place.specs.declared.location.Location.{Location}
 use Rattle.search.specs.declared.Tried.{Tried}
 use Rattle.search.specs.declared.Tried.the-variants.{Pass, Fail}
 use Rattle.search.specs.Kinds.{Kind, long}
@@ -43,7 +44,7 @@ one-by-one x1 x2 x3 x4 x5 x6 e1 e2 e3 e4 e5 e6 = e6 ∙ rw (e5, e4, e3, e2, e1) 
     go Fail Fail Fail Fail Fail Fail = refl
 
 -- what passed before stands
-pub stays : (t x : Tried) {r : Reading} → t ≡ Pass r → t ≡ orTry t x
+pub stays : (t x : Tried) {r : Location} → t ≡ Pass r → t ≡ orTry t x
 unfolding orTry
 stays t x e = e ∙ sym (ap (λ (u : Tried). orTry u x) e)
 
@@ -57,49 +58,49 @@ given-both true b t = refl
 given-both false b t = refl
 
 -- four and six: whether trials 4 and 6 are made
-module _ (kind : Kind) (level : ℕ) (coherent noncoherent : List ℕ) (c d : ℕ → Found) (apart : Bool) where
+module _ (kind : Kind) (level : ℕ) (p : Place) (coherent noncoherent : List ℕ) (c d : ℕ → Found) (apart : Bool) where
   pub in-turn : {four six : Bool} {t1 t2 t3 t4 t5 t6 : Tried} → four ≡ (leb 1 level && apart) → six ≡ (leb 2 level && apart)
-      → t1 ≡ orTry Fail (given true (checked kind 1 Coherent coherent (c 0)))
-      → t2 ≡ orTry t1 (given true (checked kind 2 Noncoherent noncoherent (d 0)))
-      → t3 ≡ orTry t2 (given (leb 1 level) (checked kind 3 Coherent coherent (c 1)))
-      → t4 ≡ orTry t3 (given four (checked kind 4 Noncoherent noncoherent (d 1)))
-      → t5 ≡ orTry t4 (given (leb 2 level) (checked kind 5 Coherent coherent (c 2)))
-      → t6 ≡ orTry t5 (given six (checked kind 6 Noncoherent noncoherent (d 2)))
-      → t6 ≡ first (sixTrials kind level coherent noncoherent c d apart)
+      → t1 ≡ orTry Fail (given true (checked kind p 1 Coherent coherent (c 0)))
+      → t2 ≡ orTry t1 (given true (checked kind p 2 Noncoherent noncoherent (d 0)))
+      → t3 ≡ orTry t2 (given (leb 1 level) (checked kind p 3 Coherent coherent (c 1)))
+      → t4 ≡ orTry t3 (given four (checked kind p 4 Noncoherent noncoherent (d 1)))
+      → t5 ≡ orTry t4 (given (leb 2 level) (checked kind p 5 Coherent coherent (c 2)))
+      → t6 ≡ orTry t5 (given six (checked kind p 6 Noncoherent noncoherent (d 2)))
+      → t6 ≡ first (sixTrials kind level p coherent noncoherent c d apart)
   unfolding sixTrials
   in-turn {four} {six} f s e1 e2 e3 e4 e5 e6 =
-      let p : given four (checked kind 4 Noncoherent noncoherent (d 1)) ≡ given (leb 1 level) (given apart (checked kind 4 Noncoherent noncoherent (d 1)))
+      let u : given four (checked kind p 4 Noncoherent noncoherent (d 1)) ≡ given (leb 1 level) (given apart (checked kind p 4 Noncoherent noncoherent (d 1)))
       = rw f (given-both (leb 1 level) apart _) in
-      let q : given six (checked kind 6 Noncoherent noncoherent (d 2)) ≡ given (leb 2 level) (given apart (checked kind 6 Noncoherent noncoherent (d 2)))
+      let v : given six (checked kind p 6 Noncoherent noncoherent (d 2)) ≡ given (leb 2 level) (given apart (checked kind p 6 Noncoherent noncoherent (d 2)))
       = rw s (given-both (leb 2 level) apart _) in
-      one-by-one _ _ _ _ _ _ (e1 ∙ ap (orTry Fail) (given-true _)) (e2 ∙ ap (orTry _) (given-true _)) e3 (e4 ∙ ap (orTry _) p) e5 (e6 ∙ ap (orTry _) q)
+      one-by-one _ _ _ _ _ _ (e1 ∙ ap (orTry Fail) (given-true _)) (e2 ∙ ap (orTry _) (given-true _)) e3 (e4 ∙ ap (orTry _) u) e5 (e6 ∙ ap (orTry _) v)
 
 -- with what clears the messages' own remainders the reading is that of the search
-module _ (kind : Kind) (level : ℕ) (coherent noncoherent : List ℕ) where
+module _ (kind : Kind) (level : ℕ) (p : Place) (coherent noncoherent : List ℕ) where
   -- a trial that the level asks for has what it looks for; another is not made
   asked : (n number : ℕ) (slicer : Slicer) (bits : List ℕ) {c : Found} → Finds kind level (remainder bits) c
-      → given (leb n level) (checked kind number slicer bits (only c n)) ≡ given (leb n level) (checked kind number slicer bits (cleared kind bits n))
+      → given (leb n level) (checked kind p number slicer bits (only c n)) ≡ given (leb n level) (checked kind p number slicer bits (cleared kind bits n))
   unfolding cleared
   asked n number slicer bits {c} f = go (leb n level) refl
     where
-      go : (b : Bool) → leb n level ≡ b → given b (checked kind number slicer bits (only c n)) ≡ given b (checked kind number slicer bits (cleared kind bits n))
-      go true e = ap (λ (o : Found). given true (checked kind number slicer bits o)) (f .each n (leb-true n level e))
-      go false e = unasked (checked kind number slicer bits (only c n)) ∙ sym (unasked (checked kind number slicer bits (cleared kind bits n)))
+      go : (b : Bool) → leb n level ≡ b → given b (checked kind p number slicer bits (only c n)) ≡ given b (checked kind p number slicer bits (cleared kind bits n))
+      go true e = ap (λ (o : Found). given true (checked kind p number slicer bits o)) (f .each n (leb-true n level e))
+      go false e = unasked (checked kind p number slicer bits (only c n)) ∙ sym (unasked (checked kind p number slicer bits (cleared kind bits n)))
 
   within : (b : Bool) (n number : ℕ) (slicer : Slicer) (bits : List ℕ) {c : Found} → Finds kind level (remainder bits) c
-      → given (leb n level) (given b (checked kind number slicer bits (only c n))) ≡ given (leb n level) (given b (checked kind number slicer bits (cleared kind bits n)))
+      → given (leb n level) (given b (checked kind p number slicer bits (only c n))) ≡ given (leb n level) (given b (checked kind p number slicer bits (cleared kind bits n)))
   within b n number slicer bits {c} f =
-      swap (leb n level) b (checked kind number slicer bits (only c n)) ∙ ap (given b) (asked n number slicer bits f)
-      ∙ swap b (leb n level) (checked kind number slicer bits (cleared kind bits n))
+      swap (leb n level) b (checked kind p number slicer bits (only c n)) ∙ ap (given b) (asked n number slicer bits f)
+      ∙ swap b (leb n level) (checked kind p number slicer bits (cleared kind bits n))
 
   at-once : (number : ℕ) (slicer : Slicer) (bits : List ℕ) {c : Found} → Finds kind level (remainder bits) c
-      → checked kind number slicer bits (only c 0) ≡ checked kind number slicer bits (cleared kind bits 0)
+      → checked kind p number slicer bits (only c 0) ≡ checked kind p number slicer bits (cleared kind bits 0)
   unfolding cleared
-  at-once number slicer bits f = ap (checked kind number slicer bits) (f .each 0 (omega arith))
+  at-once number slicer bits f = ap (checked kind p number slicer bits) (f .each 0 (omega arith))
 
   pub reading-by : {c d : Found} {apart : Bool} → Finds kind level (remainder coherent) c → Finds kind level (remainder noncoherent) d
       → apart ≡ not (eqb (remainder coherent) (remainder noncoherent))
-      → first (sixTrials kind level coherent noncoherent (only c) (only d) apart) ≡ reading kind level coherent noncoherent
+      → first (sixTrials kind level p coherent noncoherent (only c) (only d) apart) ≡ reading kind level p coherent noncoherent
   unfolding reading trials sixTrials differ
   reading-by {c} {d} f g s =
       rw (

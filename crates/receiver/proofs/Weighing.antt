@@ -3,7 +3,8 @@
 --     kept, gone                what the filter leaves
 --     few-kept                  fewer than two repairs are not dropped, whatever the distance
 --     filter-is                 the filter, for settings that are taken
---     level-low                 their level is at most 2
+--     level-low, most-level     their level is at most 2, and that of a kind at most its most
+--     reading-at, reading-taken, reading-few    what a reading is
 --     read-pass, read-fail      what survives
 -- Assumes nothing.
 use mathlib.Core.Path.{_≡_, refl, ap, _∙_}
@@ -13,6 +14,7 @@ use mathlib.Core.Logic.{_≢_}
 use mathlib.Core.Option.{none, some}
 use Prim.Native.Nat.{ℕ, _≤_, min}
 use native.Mathlib.Omega.{arith}
+use native.Mathlib.Nat.{min-le-left, min-comm}
 use native.Mathlib.Decide.{ℕ-discrete}
 use borrow.Author.Tests.{leb-true, ne-eqb}
 use lib.Dec.{leb}
@@ -20,15 +22,17 @@ use lib.Ieee.{Float}
 use lib.Ieee.Scale.{finite}
 use Rattle.lists.specs.Told.{done, refused}
 use Rattle.lists.proofs.Telling.{same-values, not-done}
-use Rattle.annex10.specs.Repair.{count, inside, repaired}
-use Rattle.annex10.proofs.Positions.{proper-inside}
+use Rattle.annex10.specs.Repair.{count, repaired}
 use Rattle.place.specs.declared.Place.{Place}
-use Rattle.parts.specs.Part.{symbolsFor, samplesFor, chosen}
+use Rattle.place.specs.declared.location.Location.{Location}
+use Rattle.place.specs.Step.{within}
+use Rattle.place.specs.Agrees.{locationNumber}
+use Rattle.place.proofs.Within.{within-gives}
+use Rattle.parts.specs.Part.{symbolsAt, samplesAt, chosen}
 use Rattle.kernels.specs.Powers.{powerOf, noiseOf}
 use Rattle.streams.specs.Streams.{messageAt}
 use Rattle.cn0.specs.Estimate.{cn0Of}
 use Rattle.search.specs.declared.Settings.{Settings}
-use Rattle.search.specs.declared.Reading.{Reading}
 use Rattle.search.specs.declared.Tried.{Tried}
 use Rattle.search.specs.declared.Tried.the-variants as T
 use Rattle.search.specs.declared.Candidate.{Candidate}
@@ -39,6 +43,7 @@ use Rattle.search.specs.Choice.{candidate, dropped, survivor, candidateAt}
 use Rattle.search.specs.Kinds.{Kind, long}
 use Rattle.search.specs.Answers.{settingsNumber, survivorOf}
 use Rattle.search.proofs.Passing.{sound}
+use Rattle.search.proofs.Locating.{sited-taken, read-sited}
 use Rattle.choice.specs.Filtered.{filteredOf}
 use Rattle.receiver.specs.Inner.{padded, wide, heldOf, seenAt}
 use Rattle.receiver.proofs.EitherKind.{Right}
@@ -53,15 +58,19 @@ level-low s = go (leb (s .level) 2) (finite (s .threshold) && finite (s .second)
     go true u e z = leb-true _ _ e
     go false u e z = absurd (omega arith)
 
+-- the most repairs of a kind are never passed
+pub most-level : (level most : ℕ) → min level most ≤ most
+most-level level most = omega (arith, min-le-left most level, min-comm level most)
+
 -- ---- the filter
 
-pub filter-is : (s : Settings) (n : ℕ) (c : Candidate) {b : Bool} → settingsNumber s ≡ 0 → done b ≡ filteredOf s n c → b ≡ dropped s n c
+pub filter-is : (s : Settings) (n : ℕ) (c : Candidate) {b : Bool} → settingsNumber s ≡ 0 → locationNumber 14 (c .location) ≡ 0 → done b ≡ filteredOf s n c → b ≡ dropped s n c
 unfolding filteredOf
-filter-is s n c z e = same-values (rw z at e)
+filter-is s n c z y e = same-values (rw (z, y) at e)
 
-pub filter-never : (s : Settings) (n : ℕ) (c : Candidate) {k : ℕ} → settingsNumber s ≡ 0 → refused k ≡ filteredOf s n c → ⊥
+pub filter-never : (s : Settings) (n : ℕ) (c : Candidate) {k : ℕ} → settingsNumber s ≡ 0 → locationNumber 14 (c .location) ≡ 0 → refused k ≡ filteredOf s n c → ⊥
 unfolding filteredOf
-filter-never s n c z e = not-done (rw z at e)
+filter-never s n c z y e = not-done (rw (z, y) at e)
 
 pub kept : (c : Candidate) {b : Bool} → b ≡ false → record { number = 0; candidate = c } ≡ survivorOf long (cond b none (some c))
 kept c e = rw e
@@ -69,9 +78,9 @@ kept c e = rw e
 pub gone : (c : Candidate) {b : Bool} {r : Survivor} → b ≡ true → r ≡ survivorOf long none → r ≡ survivorOf long (cond b none (some c))
 gone c e f = rw e f
 
-few-kept : (s : Settings) (m n : ℕ) (c : Candidate) → count (c .repairs) ≢ 2 → dropped s m c ≡ dropped s n c
+few-kept : (s : Settings) (m n : ℕ) (c : Candidate) → count (c .location .repairs) ≢ 2 → dropped s m c ≡ dropped s n c
 unfolding dropped
-few-kept s m n c h = rw (ne-eqb (count (c .repairs)) 2 h)
+few-kept s m n c h = rw (ne-eqb (count (c .location .repairs)) 2 h)
 
 -- the room of a message plays no part
 wide-kept : (k : Kind) (b : Bool) (c : Candidate) → survivorOf long (cond b none (some (wide k c))) ≡ heldOf k (cond b none (some c))
@@ -82,7 +91,7 @@ wide-dropped : (k : Kind) (s : Settings) (n : ℕ) (c : Candidate) → dropped s
 unfolding dropped
 wide-dropped k s n c = refl
 
-module _ (k : Kind) (w : Right k) (samples row : List Float) (coherent noncoherent : List ℕ) (p : Place) where
+module _ (k : Kind) (w : Right k) (samples row : List Float) (coherent noncoherent : List ℕ) where
   abbrev n : ℕ
   n = k .bytes
 
@@ -90,46 +99,48 @@ module _ (k : Kind) (w : Right k) (samples row : List Float) (coherent noncohere
   there = seenAt k samples row coherent noncoherent
 
   -- ---- the candidate
-  pub candidate-is : (r : Reading) {message bytes : List ℕ} {prompt noise x : Float}
-      → bytes ≡ repaired (messageAt (chosen (r .slicer) coherent noncoherent) n (p .bit)) (r .repairs) → message ≡ padded k bytes
-      → prompt ≡ powerOf n (symbolsFor n row p) bytes → noise ≡ noiseOf n (samplesFor n samples p) bytes → x ≡ cn0Of prompt noise
-      → record { place = p; trial = r .trial; slicer = r .slicer; repairs = r .repairs; message = message; prompt = prompt; cn0 = x; undecided = 0 }
-      ≡ wide k (candidate there p r)
+  pub candidate-is : (l : Location) {message bytes : List ℕ} {prompt noise x : Float}
+      → bytes ≡ repaired (messageAt (chosen (l .slicer) coherent noncoherent) n (l .place .bit)) (l .repairs) → message ≡ padded k bytes
+      → prompt ≡ powerOf n (symbolsAt n row (l .place)) bytes → noise ≡ noiseOf n (samplesAt n samples (l .place)) bytes → x ≡ cn0Of prompt noise
+      → record { location = l; message = message; prompt = prompt; cn0 = x; undecided = 0 } ≡ wide k (candidate there l)
   unfolding candidate seenAt
-  candidate-is r eb em ep en ex = rw (ex, ep, en, em, eb)
+  candidate-is l eb em ep en ex = rw (ex, ep, en, em, eb)
 
-  -- ---- the trials
+  module _ (p : Place) where
+    -- ---- the trials
 
-  module _ (level : ℕ) where
-    abbrev read : Tried
-    read = reading k level (messageAt coherent n (p .bit)) (messageAt noncoherent n (p .bit))
+    abbrev read : ℕ → Tried
+    read level = reading k level p (messageAt coherent n (p .bit)) (messageAt noncoherent n (p .bit))
 
-    -- the positions of a reading lie in the message, and are no more than the level allows
-    pub reading-inside : {r : Reading} → read ≡ T.Pass r → inside n (r .repairs) ≡ true
-    reading-inside {r} e = proper-inside n (r .repairs) (sound k level _ _ .so r e .proper)
+    -- a reading lies at its place, is taken, and repairs no more than the level allows
+    pub reading-at : (level : ℕ) {l : Location} → read level ≡ T.Pass l → l .place ≡ p
+    reading-at level {l} e = sound k level p _ _ .so l e .place
 
-    pub reading-few : {r : Reading} → read ≡ T.Pass r → count (r .repairs) ≤ level
-    reading-few {r} e = sound k level _ _ .so r e .within
+    pub reading-taken : (level : ℕ) {l : Location} → level ≤ k .most → within n p ≡ true → read level ≡ T.Pass l → locationNumber n l ≡ 0
+    reading-taken level {l} h v e = sited-taken k p l (read-sited k (w .makes) level p _ _ h .so l e) (within-gives n p v)
 
-  -- ---- what survives
+    pub reading-few : (level : ℕ) {l : Location} → read level ≡ T.Pass l → count (l .repairs) ≤ level
+    reading-few level {l} e = sound k level p _ _ .so l e .within
 
-  module _ (s : Settings) where
-    abbrev level : ℕ
-    level = min (s .level) (k .most)
+    -- ---- what survives
 
-    pub read-pass : {r : Reading} {a : Candidate} {x : Survivor} (m : ℕ) → (count (r .repairs) ≡ 2 → m ≡ there .distance p)
-        → read level ≡ T.Pass r → a ≡ wide k (candidate there p r)
-        → x ≡ survivorOf long (cond (dropped s m a) none (some a)) → x ≡ heldOf k (candidateAt k s there p)
-    unfolding candidateAt survivor seenAt candidate
-    read-pass {r} m d e ea ex =
-        rw e (ex ∙ rw (ea, there-dropped) (wide-kept k (dropped s (there .distance p) (candidate there p r)) (candidate there p r)))
-      where
-        there-dropped : dropped s m (wide k (candidate there p r)) ≡ dropped s (there .distance p) (candidate there p r)
-        there-dropped = elim (ℕ-discrete (count (r .repairs)) 2) [
-          | yes h ↦ ap (λ (i : ℕ). dropped s i (wide k (candidate there p r))) (d h) ∙ wide-dropped k s (there .distance p) (candidate there p r)
-          | no h ↦ wide-dropped k s m (candidate there p r) ∙ few-kept s m (there .distance p) (candidate there p r) h
-        ]
+    module _ (s : Settings) where
+      abbrev level : ℕ
+      level = min (s .level) (k .most)
 
-    pub read-fail : {x : Survivor} → read level ≡ T.Fail → x ≡ survivorOf long none → x ≡ heldOf k (candidateAt k s there p)
-    unfolding candidateAt survivor seenAt
-    read-fail e ex = rw e ex
+      pub read-pass : {l : Location} {a : Candidate} {x : Survivor} (m : ℕ) → (count (l .repairs) ≡ 2 → m ≡ there .distance (l .place))
+          → read level ≡ T.Pass l → a ≡ wide k (candidate there l)
+          → x ≡ survivorOf long (cond (dropped s m a) none (some a)) → x ≡ heldOf k (candidateAt k s there p)
+      unfolding candidateAt survivor seenAt candidate
+      read-pass {l} m d e ea ex =
+          rw e (ex ∙ rw (ea, there-dropped) (wide-kept k (dropped s (there .distance (l .place)) (candidate there l)) (candidate there l)))
+        where
+          there-dropped : dropped s m (wide k (candidate there l)) ≡ dropped s (there .distance (l .place)) (candidate there l)
+          there-dropped = elim (ℕ-discrete (count (l .repairs)) 2) [
+            | yes h ↦ ap (λ (i : ℕ). dropped s i (wide k (candidate there l))) (d h) ∙ wide-dropped k s (there .distance (l .place)) (candidate there l)
+            | no h ↦ wide-dropped k s m (candidate there l) ∙ few-kept s m (there .distance (l .place)) (candidate there l) h
+          ]
+
+      pub read-fail : {x : Survivor} → read level ≡ T.Fail → x ≡ survivorOf long none → x ≡ heldOf k (candidateAt k s there p)
+      unfolding candidateAt survivor seenAt
+      read-fail e ex = rw e ex

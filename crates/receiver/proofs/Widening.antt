@@ -19,7 +19,6 @@ use Rattle.mode_s.specs.declared.message.MessageKind.{MessageKind}
 use Rattle.mode_s.specs.declared.message.MessageKind.the-variants.{Short, Long}
 use Rattle.streams.specs.Streams.{messageAt}
 use Rattle.streams.proofs.Reading.{message-length}
-use Rattle.place.specs.Step.{sampleStart}
 use Rattle.kernels.specs.Symbols.{symbolsOf}
 use Rattle.search.specs.declared.Candidate.{Candidate}
 use Rattle.search.specs.declared.Survivor.{Survivor}
@@ -95,9 +94,9 @@ refused-short n = refl
 -- with its time, and the message in its room
 timed : (k : Kind) (samples : List Float) (index : ℕ) (c : Candidate) → length (c .message) ≡ k .bytes
     → answerIn k (symbolsOf samples) index (survivorOf long (some (wide k c)))
-    ≡ (let a = answerOf k samples index c in record { number = 0; place = a .place; message = padded k (c .message); repairs = a .repairs; slicer = a .slicer; cn0 = a .cn0; index = a .index; fraction = a .fraction; undecided = a .undecided })
+    ≡ (let a = answerOf k samples index c in record { number = 0; location = a .location; message = padded k (c .message); cn0 = a .cn0; index = a .index; fraction = a .fraction; undecided = a .undecided })
 unfolding answerIn answerOf arrivalIn
-timed k samples index c e = rw (unpadded k (c .message) e, timing-seen k samples (c .message) (sampleStart (c .place)))
+timed k samples index c e = rw (unpadded k (c .message) e, timing-seen k samples (c .message) (c .location))
 
 pub answer-long : (samples : List Float) (index : ℕ) (o : Option Candidate) {x : Survivor} → Fit long o → x ≡ heldOf long o
     → answerIn long (symbolsOf samples) index x ≡ answered long samples index o

@@ -1,7 +1,7 @@
 -- What private functions compute: no public contract cites it.
 -- Assumes nothing.
 use mathlib.Core.Path.{_≡_}
-use mathlib.Core.Bool.{Bool, true, not, cond}
+use mathlib.Core.Bool.{Bool, true, not, _&&_, _||_, cond}
 use mathlib.Core.List.{List, [], _++_, foldl}
 use mathlib.Core.Option.{Option, none, some}
 use Prim.Native.Nat.{ℕ, _+_, _-_, _*_, _/_, _%_, _<_, _≤_}
@@ -19,9 +19,11 @@ use Rattle.mode_s.specs.declared.message.MessageKind.{MessageKind}
 use Rattle.mode_s.specs.declared.message.MessageKind.the-variants.{Short, Long}
 use Rattle.place.specs.declared.Place.{Place}
 use Rattle.place.specs.declared.Slicer.the-variants.{Coherent, Noncoherent}
+use Rattle.place.specs.declared.location.Location.{Location}
 use Rattle.place.specs.Step.{sampleStart, startingAt}
 use Rattle.place.specs.All.{listed}
-use Rattle.parts.specs.Part.{symbolsFor, samplesFor, chosen}
+use Rattle.place.specs.Agrees.{locationNumber}
+use Rattle.parts.specs.Part.{symbolsAt, samplesAt, chosen}
 use Rattle.math.specs.Parabola.{parabola}
 use Rattle.kernels.specs.declared.around.Around.{Around}
 use Rattle.kernels.specs.Symbols.{symbolsOf}
@@ -44,7 +46,7 @@ use Rattle.search.specs.declared.Arrival.{Arrival}
 use Rattle.search.specs.declared.Answer.{Answer}
 use Rattle.search.specs.Kinds.{Kind, long, short}
 use Rattle.search.specs.Window.{Window}
-use Rattle.search.specs.Choice.{better}
+use Rattle.search.specs.Choice.{beats, better}
 use Rattle.search.specs.When.{timingAt, indexOf}
 use Rattle.search.specs.Answers.{survivorOf, refusedAnswer}
 
@@ -68,10 +70,7 @@ padded k message = message ++ replicate (14 - k .bytes) 0
 abbrev pub wide : Kind → Candidate → Candidate
 wide k c =
     record {
-      place = c .place;
-      trial = c .trial;
-      slicer = c .slicer;
-      repairs = c .repairs;
+      location = c .location;
       message = padded k (c .message);
       prompt = c .prompt;
       cn0 = c .cn0;
@@ -91,10 +90,7 @@ cutSurvivor x =
       number = x .number;
       candidate =
           record {
-            place = c .place;
-            trial = c .trial;
-            slicer = c .slicer;
-            repairs = c .repairs;
+            location = c .location;
             message = take 7 (c .message);
             prompt = c .prompt;
             cn0 = c .cn0;
@@ -106,10 +102,8 @@ abbrev pub cutAnswer : Answer → Answer
 cutAnswer a =
     record {
       number = a .number;
-      place = a .place;
+      location = a .location;
       message = take 7 (a .message);
-      repairs = a .repairs;
-      slicer = a .slicer;
       cn0 = a .cn0;
       index = a .index;
       fraction = a .fraction;
@@ -120,7 +114,7 @@ cutAnswer a =
 
 -- the power of a message at a place, from the symbols of all clock phases
 unfoldable pub powerIn : Kind → List Float → Place → List ℕ → Float
-powerIn k symbols p message = powerOf (k .bytes) (symbolsFor (k .bytes) (take 576 (drop (576 * p .phase) symbols)) p) message
+powerIn k symbols p message = powerOf (k .bytes) (symbolsAt (k .bytes) (take 576 (drop (576 * p .phase) symbols)) p) message
 
 -- its powers one and two clock phases either way of sample s
 unfoldable pub aroundIn : Kind → List Float → List ℕ → ℕ → Around
@@ -145,29 +139,32 @@ timedBy x a =
 unfoldable pub seenIn : Kind → List Float → Window
 seenIn k symbols = record { bits = λ slicer p. []; undecided = λ slicer p. 0; distance = λ p. 0; prompt = powerIn k symbols; cn0 = powerIn k symbols }
 
--- when a message came, from the symbols
-unfoldable pub arrivalIn : Kind → List Float → Place → List ℕ → ℕ → Arrival
-arrivalIn k symbols p message index =
-    let t = timingAt (seenIn k symbols) message (sampleStart p) in
-    record { number = 0; index = indexOf index (sampleStart p) (t .moves); fraction = t .fraction }
+-- a location that is searched: one of the places, with a record that is taken
+pub record Searched (k : Kind) (l : Location) : Type 0 where
+  pub place : listed (k .last) (l .place) ≡ true
+  pub taken : locationNumber (k .bytes) l ≡ 0
 
--- what is found lies at a place that is searched, and has its power there
+-- when a message came, from the symbols
+unfoldable pub arrivalIn : Kind → List Float → Location → List ℕ → ℕ → Arrival
+arrivalIn k symbols l message index =
+    let t = timingAt (seenIn k symbols) message l in
+    record { number = 0; index = indexOf index (sampleStart (l .place)) (t .moves); fraction = t .fraction }
+
+-- what is found is a location that is searched, and has its power there
 pub record Weighed (k : Kind) (symbols : List Float) (x : Survivor) : Type 0 where
-  pub place : x .number ≡ 0 → listed (k .last) (x .candidate .place) ≡ true
-  pub power : x .number ≡ 0 → x .candidate .prompt ≡ powerIn k symbols (x .candidate .place) (take (k .bytes) (x .candidate .message))
+  pub at : x .number ≡ 0 → Searched k (x .candidate .location)
+  pub power : x .number ≡ 0 → x .candidate .prompt ≡ powerIn k symbols (x .candidate .location .place) (take (k .bytes) (x .candidate .message))
 
 -- what is found, with its time
 unfoldable pub answerIn : Kind → List Float → ℕ → Survivor → Answer
 answerIn k symbols index x =
     let c = x .candidate in
-    let t = arrivalIn k symbols (c .place) (take (k .bytes) (c .message)) index in
+    let t = arrivalIn k symbols (c .location) (take (k .bytes) (c .message)) index in
     cond (eqb (x .number) 0)
     (record {
       number = 0;
-      place = c .place;
+      location = c .location;
       message = c .message;
-      repairs = c .repairs;
-      slicer = c .slicer;
       cn0 = c .cn0;
       index = t .index;
       fraction = t .fraction;
@@ -189,6 +186,14 @@ pub record Scanned (k : Kind) (samples : List Float) (coherent noncoherent crcs 
 pub record Ready (k : Kind) (samples symbols : List Float) (coherent noncoherent crcs others : List ℕ) : Type 0 where
   pub scanned : Scanned k samples coherent noncoherent crcs others
   pub sums : symbols ≡ symbolsOf samples
+
+-- a newcomer takes over only if it is a candidate and the holder is none or is beaten; a number 0 is a candidate, any other is nothing
+unfoldable pub takesOver : Survivor → Survivor → Bool
+takesOver held new = eqb (new .number) 0 && (not (eqb (held .number) 0) || beats (new .candidate) (held .candidate))
+
+-- what is held then
+unfoldable pub chosenSurvivor : Survivor → Survivor → Survivor
+chosenSurvivor held new = cond (takesOver held new) new held
 
 -- the best of some places, given by their numbers, held on from h
 unfoldable pub over : (Place → Option Candidate) → (ℕ → Place) → Option Candidate → List ℕ → Option Candidate
@@ -250,26 +255,24 @@ seenAt k samples row coherent noncoherent =
       bits = λ slicer p. messageAt (chosen slicer coherent noncoherent) n (p .bit);
       undecided = λ slicer p. 0;
       distance = λ p. differing (messageAt coherent n (p .bit)) (messageAt noncoherent n (p .bit)) (8 * n);
-      prompt = λ p message. powerOf n (symbolsFor n row p) message;
-      cn0 = λ p message. cn0Of (powerOf n (symbolsFor n row p) message) (noiseOf n (samplesFor n samples p) message);
+      prompt = λ p message. powerOf n (symbolsAt n row p) message;
+      cn0 = λ p message. cn0Of (powerOf n (symbolsAt n row p) message) (noiseOf n (samplesAt n samples p) message);
     }
 
--- what is read at a place, with its undecided bits counted from the symbols of all clock phases
-abbrev pub countedIn : Kind → List Float → Place → Survivor → Survivor
-countedIn k symbols p x =
+-- what is read, with its undecided bits counted from the symbols of all clock phases
+abbrev pub countedIn : Kind → List Float → Survivor → Survivor
+countedIn k symbols x =
     let c = x .candidate in
+    let p = c .location .place in
     record {
       number = x .number;
       candidate =
           record {
-            place = c .place;
-            trial = c .trial;
-            slicer = c .slicer;
-            repairs = c .repairs;
+            location = c .location;
             message = c .message;
             prompt = c .prompt;
             cn0 = c .cn0;
-            undecided = undecidedIn (c .slicer) (symbolsFor (k .bytes) (take 576 (drop (576 * p .phase) symbols)) p) (8 * k .bytes);
+            undecided = undecidedIn (c .location .slicer) (symbolsAt (k .bytes) (take 576 (drop (576 * p .phase) symbols)) p) (8 * k .bytes);
           };
     }
 

@@ -6,6 +6,8 @@ use Prim.Native.Nat.{ℕ}
 use lib.Dec.{leb, eqb}
 use lib.ListN.{length}
 use Rattle.lists.specs.Told.{Told, done, refused, tell}
+use Rattle.place.specs.declared.Place.{Place}
+use Rattle.place.specs.All.{listed}
 use Rattle.streams.specs.Streams.{messageAt}
 use Rattle.search.specs.declared.Tried.{Tried}
 use Rattle.search.specs.Kinds.{long}
@@ -17,19 +19,19 @@ abbrev pub attemptTold : Attempt → Told Tried
 attemptTold (Is t) = done t
 attemptTold (Refused n) = refused n
 
--- a stream has 18 bytes, else 2; the level is 0, 1 or 2, else 4; a bit offset is 0 to 32, else 7
-unfoldable pub tryNumber : ℕ → List ℕ → List ℕ → ℕ → ℕ
-tryNumber level coherent noncoherent bit =
+-- a stream has 18 bytes, else 2; the level is 0, 1 or 2, else 4; the place is one of those that are searched, else 7
+unfoldable pub tryNumber : ℕ → List ℕ → List ℕ → Place → ℕ
+tryNumber level coherent noncoherent p =
     cond (eqb (length coherent) 18)
     (cond (eqb (length noncoherent) 18)
     (cond (leb level 2)
-    (cond (leb bit 32) 0
+    (cond (listed 31 p) 0
     7)
     4)
     2)
     2
 
--- the reading of the two messages at a bit offset of two streams
-unfoldable pub triedAt : ℕ → List ℕ → List ℕ → ℕ → Told Tried
-triedAt level coherent noncoherent bit =
-    tell (tryNumber level coherent noncoherent bit) (reading long level (messageAt coherent 14 bit) (messageAt noncoherent 14 bit))
+-- the reading of a place, from the two streams in which it lies
+unfoldable pub triedAt : ℕ → List ℕ → List ℕ → Place → Told Tried
+triedAt level coherent noncoherent p =
+    tell (tryNumber level coherent noncoherent p) (reading long level p (messageAt coherent 14 (p .bit)) (messageAt noncoherent 14 (p .bit)))

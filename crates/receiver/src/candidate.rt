@@ -1,20 +1,20 @@
 // The surviving reading of a place, from the row and the streams of its clock phase and symbol offset.
 use crate::kinds::bytes_of;
 use crate::kinds::level_of;
-use crate::message::message_at;
+use crate::message::message_from_location;
 use crate::powers::both_powers;
 use crate::six::try_six;
 use annex10::Found;
 use annex10::Repairs;
-use choice::best::repairs_of;
+use annex10::repairs_of;
 use choice::filter::Filtered;
 use choice::filter::filter_out_decode_candidate;
 use cn0::estimate_cn0;
 use mode_s::message::MessageKind;
 use place::Place;
 use place::Slicer;
+use place::location::Location;
 use search::Candidate;
-use search::Reading;
 use search::Settings;
 use search::Survivor;
 use search::Tried;
@@ -25,14 +25,31 @@ ghost use mathlib.Core.Bool.{true, cond};
 ghost use mathlib.Core.Option.{none, some};
 ghost use Prim.Native.Nat.{min};
 ghost use lib.ListN.{length};
-ghost use Rattle.annex10.specs.Repair.{count, inside};
+ghost use Rattle.annex10.specs.Repair.{count};
 ghost use Rattle.place.specs.Step.{within};
+ghost use Rattle.place.specs.Agrees.{locationNumber};
 ghost use Rattle.streams.specs.Streams.{messageAt};
 ghost use Rattle.streams.specs.Distances.{differing};
 ghost use Rattle.search.specs.Choice.{candidate, dropped, candidateAt};
 ghost use Rattle.search.specs.Kinds.{long};
-ghost use Rattle.search.specs.Answers.{settingsNumber, noCandidate, survivorOf};
+ghost use Rattle.search.specs.Answers.{settingsNumber, nowhere, noCandidate, survivorOf};
 ghost use Rattle.receiver.specs.Inner.{Streams, Known, kindOf, seenAt, wide, heldOf};
+
+// Zeros: the location of a refusal.
+pub fn nowhere() -> Location
+    ensures { λ r. ⌜ r ≡ nowhere ⌝ }
+{
+    Location {
+        place: Place {
+            bit: 0,
+            phase: 0,
+            symbol: 0,
+        },
+        trial: 0,
+        slicer: Slicer::Coherent,
+        repairs: Repairs::None,
+    }
+}
 
 // No reading, and the number that says why.
 pub fn unread(number: u32) -> Survivor
@@ -41,14 +58,7 @@ pub fn unread(number: u32) -> Survivor
     Survivor {
         number,
         candidate: Candidate {
-            place: Place {
-                bit: 0,
-                phase: 0,
-                symbol: 0,
-            },
-            trial: 0,
-            slicer: Slicer::Coherent,
-            repairs: Repairs::None,
+            location: nowhere(),
             message: [0u8; 14],
             prompt: 0.0,
             cn0: 0.0,
@@ -74,32 +84,25 @@ fn distance_at(coherent: &[u8], noncoherent: &[u8], bit: usize) -> u32
     }
 }
 
-// A reading at a place, with its message, power and cn0. Its undecided bits are counted when it is held.
+// A reading with its message, power and cn0. Its undecided bits are counted when it is held.
 fn candidate_of<'a>(
     kind: MessageKind,
     samples: &[f32],
     row: &[f32],
     coherent: &'a [u8],
     noncoherent: &'a [u8],
-    place: Place,
-    reading: Reading,
+    location: Location,
 ) -> Candidate
-    requires { ⌜ (length (now samples) ≡ 2310) × (length (now row) ≡ 576) × Streams (kindOf kind) (now coherent) (now noncoherent) (place .bit) × (within (kindOf kind .bytes) place ≡ true) × (inside (kindOf kind .bytes) (reading .repairs) ≡ true) ⌝ }
-    ensures { λ r. ⌜ r ≡ wide (kindOf kind) (candidate (seenAt (kindOf kind) (now (samples .entry)) (now (row .entry)) (now (coherent .entry)) (now (noncoherent .entry))) place reading) ⌝ }
+    requires { ⌜ (length (now samples) ≡ 2310) × (length (now row) ≡ 576) × Streams (kindOf kind) (now coherent) (now noncoherent) (location .place .bit) × (locationNumber (kindOf kind .bytes) location ≡ 0) ⌝ }
+    ensures { λ r. ⌜ r ≡ wide (kindOf kind) (candidate (seenAt (kindOf kind) (now (samples .entry)) (now (row .entry)) (now (coherent .entry)) (now (noncoherent .entry))) location) ⌝ }
 {
-    let bit = place.bit;
-    let slicer = reading.slicer;
-    let repairs = reading.repairs;
-    let message = message_at(kind, coherent, noncoherent, bit, slicer, repairs);
+    let message = message_from_location(kind, coherent, noncoherent, location);
     let bytes = bytes_of(kind);
-    let powers = both_powers(kind, samples, row, place, &message[..bytes]);
+    let powers = both_powers(kind, samples, row, location, &message[..bytes]);
     let prompt = powers.prompt;
     let cn0 = estimate_cn0(prompt, powers.noise);
     Candidate {
-        place,
-        trial: reading.trial,
-        slicer,
-        repairs,
+        location,
         message,
         prompt,
         cn0,
@@ -108,7 +111,7 @@ fn candidate_of<'a>(
 }
 
 fn is_dropped(s: Settings, differing: u32, c: Candidate) -> bool
-    requires { ⌜ settingsNumber s ≡ 0 ⌝ }
+    requires { ⌜ (settingsNumber s ≡ 0) × (locationNumber 14 (c .location) ≡ 0) ⌝ }
     ensures { λ r. ⌜ r ≡ dropped s differing c ⌝ }
 {
     match filter_out_decode_candidate(s, differing, c) {
@@ -118,18 +121,20 @@ fn is_dropped(s: Settings, differing: u32, c: Candidate) -> bool
 }
 
 // The slicers' distance is asked for only where it can matter: only long messages are repaired twice.
-fn survives(s: Settings, coherent: &[u8], noncoherent: &[u8], bit: usize, c: Candidate) -> Survivor
-    requires { ⌜ (count (c .repairs) ≡ 2 → Streams long (now coherent) (now noncoherent) bit) × (settingsNumber s ≡ 0) ⌝ }
-    ensures { λ r. ⌜ r ≡ survivorOf long (cond (dropped s (differing (messageAt (now (coherent .entry)) 14 bit) (messageAt (now (noncoherent .entry)) 14 bit) 112) c) none (some c)) ⌝ }
+fn survives(s: Settings, coherent: &[u8], noncoherent: &[u8], c: Candidate) -> Survivor
+    requires { ⌜ (count (c .location .repairs) ≡ 2 → Streams long (now coherent) (now noncoherent) (c .location .place .bit) × (locationNumber 14 (c .location) ≡ 0)) × (settingsNumber s ≡ 0) ⌝ }
+    ensures { λ r. ⌜ r ≡ survivorOf long (cond (dropped s (differing (messageAt (now (coherent .entry)) 14 (c .location .place .bit)) (messageAt (now (noncoherent .entry)) 14 (c .location .place .bit)) 112) c) none (some c)) ⌝ }
 {
-    let repairs = c.repairs;
+    let location = c.location;
+    let place = location.place;
+    let repairs = location.repairs;
     if repairs_of(repairs) != 2 {
         return Survivor {
             number: 0,
             candidate: c,
         };
     }
-    if is_dropped(s, distance_at(coherent, noncoherent, bit), c) {
+    if is_dropped(s, distance_at(coherent, noncoherent, place.bit), c) {
         return nothing();
     }
     Survivor {
@@ -154,15 +159,13 @@ pub fn read_streams<'a>(
     requires { ⌜ (length (now samples) ≡ 2310) × (length (now row) ≡ 576) × Streams (kindOf kind) (now coherent) (now noncoherent) (place .bit) × (within (kindOf kind .bytes) place ≡ true) × (settingsNumber s ≡ 0) × Known (kindOf kind) (min (s .level) (kindOf kind .most)) (now coherent) (now noncoherent) (place .bit) c d apart ⌝ }
     ensures { λ r. ⌜ r ≡ heldOf (kindOf kind) (candidateAt (kindOf kind) s (seenAt (kindOf kind) (now (samples .entry)) (now (row .entry)) (now (coherent .entry)) (now (noncoherent .entry))) place) ⌝ }
 {
-    let bit = place.bit;
     let level = level_of(kind, s.level);
-    match try_six(kind, level, coherent, noncoherent, bit, c, d, apart) {
-        Tried::Pass(reading) => survives(
+    match try_six(kind, level, coherent, noncoherent, place, c, d, apart) {
+        Tried::Pass(location) => survives(
             s,
             coherent,
             noncoherent,
-            bit,
-            candidate_of(kind, samples, row, coherent, noncoherent, place, reading),
+            candidate_of(kind, samples, row, coherent, noncoherent, location),
         ),
         Tried::Fail => nothing(),
     }

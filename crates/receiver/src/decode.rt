@@ -1,4 +1,5 @@
 // The decode, and its parts for those who ask how it came about: for long messages, for short ones, for both.
+use crate::candidate::nowhere;
 use crate::candidate::unread;
 use crate::kinds::bytes_of;
 use crate::narrow::narrow_answer;
@@ -14,12 +15,11 @@ use crate::window::best_of_both;
 use crate::window::best_of_short;
 use crate::window::reading_at;
 use crate::window::reading_at_short;
-use annex10::Repairs;
 use kernels::symbols::accumulate_symbols;
 use kernels::symbols::symbols_of_sums;
 use mode_s::message::MessageKind;
 use place::Place;
-use place::Slicer;
+use place::location::Location;
 use search::Answer;
 use search::Arrival;
 use search::BothAnswers;
@@ -40,7 +40,7 @@ ghost use Rattle.search.specs.When.{indexOf};
 ghost use Rattle.search.specs.Answers.{refusedAnswer, readAt, bestOf, arrivalAt, decodeOf};
 ghost use Rattle.search.specs.Short.{shortSurvivor, shortAnswer};
 ghost use Rattle.timing.specs.Inner.{movesCount};
-ghost use Rattle.receiver.specs.Inner.{kindOf, powerIn, arrivalIn, Weighed, answerIn};
+ghost use Rattle.receiver.specs.Inner.{kindOf, Searched, powerIn, arrivalIn, Weighed, answerIn};
 
 // Zeros, with a number.
 fn refused(number: u32) -> Answer
@@ -48,14 +48,8 @@ fn refused(number: u32) -> Answer
 {
     Answer {
         number,
-        place: Place {
-            bit: 0,
-            phase: 0,
-            symbol: 0,
-        },
+        location: nowhere(),
         message: [0u8; 14],
-        repairs: Repairs::None,
-        slicer: Slicer::Coherent,
         cn0: 0.0,
         index: 0,
         fraction: 0.0,
@@ -80,15 +74,16 @@ fn index_of(given: u64, place: Place, moves: Moves) -> u64
 fn time_in(
     kind: MessageKind,
     symbols: &[f32],
-    place: Place,
+    location: Location,
     message: &[u8],
     power: f32,
     index: u64,
 ) -> Arrival
-    requires { ⌜ (length (now symbols) ≡ 2304) × (listed (kindOf kind .last) place ≡ true) × (128 ≤ index) × (index ≤ 2 ^ 63) × (length (now message) ≡ kindOf kind .bytes) × (power ≡ powerIn (kindOf kind) (now symbols) place (now message)) ⌝ }
-    ensures { λ r. ⌜ r ≡ arrivalIn (kindOf kind) (now (symbols .entry)) place (now (message .entry)) index ⌝ }
+    requires { ⌜ (length (now symbols) ≡ 2304) × Searched (kindOf kind) location × (128 ≤ index) × (index ≤ 2 ^ 63) × (length (now message) ≡ kindOf kind .bytes) × (power ≡ powerIn (kindOf kind) (now symbols) (location .place) (now message)) ⌝ }
+    ensures { λ r. ⌜ r ≡ arrivalIn (kindOf kind) (now (symbols .entry)) location (now (message .entry)) index ⌝ }
 {
-    let t = subsample(kind, symbols, place, message, power);
+    let place = location.place;
+    let t = subsample(kind, symbols, location, message, power);
     let moves = t.moves;
     Arrival {
         number: 0,
@@ -144,11 +139,17 @@ pub fn find_best_decode_candidate_short(samples: &[f32], s: Settings) -> ShortSu
 }
 
 // When a message at one of the places of its kind came.
-fn time_at(kind: MessageKind, samples: &[f32], place: Place, message: &[u8], index: u64) -> Arrival
+fn time_at(
+    kind: MessageKind,
+    samples: &[f32],
+    location: Location,
+    message: &[u8],
+    index: u64,
+) -> Arrival
     requires { ⌜ length (now message) ≡ kindOf kind .bytes ⌝ }
-    ensures { λ r. ⌜ r ≡ arrivalAt (kindOf kind) (now (samples .entry)) place (now (message .entry)) index ⌝ }
+    ensures { λ r. ⌜ r ≡ arrivalAt (kindOf kind) (now (samples .entry)) location (now (message .entry)) index ⌝ }
 {
-    let number = time_number(kind, samples, place, index);
+    let number = time_number(kind, samples, location, index);
     if number != 0 {
         return Arrival {
             number,
@@ -158,22 +159,27 @@ fn time_at(kind: MessageKind, samples: &[f32], place: Place, message: &[u8], ind
     }
     let mut symbols = [0.0f32; 2304];
     accumulate_symbols(samples, &mut symbols);
-    let power = power_at(kind, &symbols, place, message);
-    time_in(kind, &symbols, place, message, power, index)
+    let power = power_at(kind, &symbols, location, message);
+    time_in(kind, &symbols, location, message, power, index)
 }
 
-// When a message at one of the 248 places came. Refused: 2, 6, 7.
-pub fn time_message(samples: &[f32], place: Place, message: [u8; 14], index: u64) -> Arrival
-    ensures { λ r. ⌜ r ≡ arrivalAt long (now (samples .entry)) place message index ⌝ }
+// When a message at one of the 248 places came. Refused: 2, 6; its location with 7, 8.
+pub fn time_message(samples: &[f32], location: Location, message: [u8; 14], index: u64) -> Arrival
+    ensures { λ r. ⌜ r ≡ arrivalAt long (now (samples .entry)) location message index ⌝ }
 {
-    time_at(MessageKind::Long, samples, place, &message, index)
+    time_at(MessageKind::Long, samples, location, &message, index)
 }
 
 // A short one at one of the 696.
-pub fn time_message_short(samples: &[f32], place: Place, message: [u8; 7], index: u64) -> Arrival
-    ensures { λ r. ⌜ r ≡ arrivalAt short (now (samples .entry)) place message index ⌝ }
+pub fn time_message_short(
+    samples: &[f32],
+    location: Location,
+    message: [u8; 7],
+    index: u64,
+) -> Arrival
+    ensures { λ r. ⌜ r ≡ arrivalAt short (now (samples .entry)) location message index ⌝ }
 {
-    time_at(MessageKind::Short, samples, place, &message, index)
+    time_at(MessageKind::Short, samples, location, &message, index)
 }
 
 // What was found, with its time. The symbols are set out only where there is something to time.
@@ -185,20 +191,16 @@ fn answer_of(kind: MessageKind, sums: &[f32], read: Survivor, index: u64) -> Ans
         return refused(1);
     }
     let c = read.candidate;
-    let place = c.place;
+    let location = c.location;
     let message = c.message;
-    let repairs = c.repairs;
-    let slicer = c.slicer;
     let bytes = bytes_of(kind);
     let mut symbols = [0.0f32; 2304];
     symbols_of_sums(sums, &mut symbols);
-    let timed = time_in(kind, &symbols, place, &message[..bytes], c.prompt, index);
+    let timed = time_in(kind, &symbols, location, &message[..bytes], c.prompt, index);
     Answer {
         number: 0,
-        place,
+        location,
         message,
-        repairs,
-        slicer,
         cn0: c.cn0,
         index: timed.index,
         fraction: timed.fraction,

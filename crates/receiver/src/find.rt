@@ -4,7 +4,8 @@ use crate::candidate::read_streams;
 use crate::codes::bit_errors_by;
 use crate::kinds::numbered;
 use crate::undecided::counted;
-use choice::best::takes_over;
+use annex10::repairs_of;
+use choice::best::displaces;
 use mode_s::message::MessageKind;
 use place::Place;
 use place::Stepped;
@@ -18,13 +19,13 @@ ghost use Prim.Native.Nat.{_-_, _*_, _<_, min};
 ghost use lib.ListN.{length, getD, take};
 ghost use Rattle.place.specs.Step.{sampleStart};
 ghost use Rattle.place.specs.All.{listed, placeAt};
+ghost use Rattle.place.specs.Agrees.{locationNumber};
 ghost use Rattle.scan.specs.Lanes.{laneBytes};
 ghost use Rattle.search.specs.Choice.{candidateAt};
 ghost use Rattle.search.specs.Seen.{seen};
 ghost use Rattle.search.specs.Window.{unmarked};
-ghost use Rattle.choice.specs.Chosen.{chosenSurvivor};
 ghost use Rattle.search.specs.Answers.{settingsNumber};
-ghost use Rattle.receiver.specs.Inner.{Ready, Finds, kindOf, foundBy, Listing, heldOf, countedIn, over};
+ghost use Rattle.receiver.specs.Inner.{Ready, Finds, kindOf, foundBy, Listing, heldOf, takesOver, chosenSurvivor, countedIn, over};
 
 // The stream of a lane.
 fn lane_of(bits: &[u8], lane: usize) -> [u8; 18]
@@ -88,13 +89,37 @@ fn place_at(kind: MessageKind, k: usize) -> Place
     }
 }
 
+// Whether a newcomer takes over from what is held: each of the two is a candidate where its number is 0, and nothing else.
+fn takes_over(held: Survivor, new: Survivor) -> bool
+    ensures { λ r. ⌜ r ≡ takesOver held new ⌝ }
+{
+    if new.number != 0 {
+        return false;
+    }
+    if held.number != 0 {
+        return true;
+    }
+    let n = new.candidate;
+    let h = held.candidate;
+    let new_at = n.location;
+    let held_at = h.location;
+    let new_repairs = new_at.repairs;
+    let held_repairs = held_at.repairs;
+    displaces(
+        repairs_of(new_repairs),
+        n.cn0,
+        repairs_of(held_repairs),
+        h.cn0,
+    )
+}
+
 // The better of what is held and a newcomer, whose undecided bits are counted only where it takes over.
-fn hold(kind: MessageKind, symbols: &[f32], place: Place, held: Survivor, new: Survivor) -> Survivor
-    requires { ⌜ (length (now symbols) ≡ 2304) × (listed (kindOf kind .last) place ≡ true) ⌝ }
-    ensures { λ r. ⌜ r ≡ chosenSurvivor held (countedIn (kindOf kind) (now (symbols .entry)) place new) ⌝ }
+fn hold(kind: MessageKind, symbols: &[f32], held: Survivor, new: Survivor) -> Survivor
+    requires { ⌜ (length (now symbols) ≡ 2304) × (new .number ≡ 0 → locationNumber (kindOf kind .bytes) (new .candidate .location) ≡ 0) ⌝ }
+    ensures { λ r. ⌜ r ≡ chosenSurvivor held (countedIn (kindOf kind) (now (symbols .entry)) new) ⌝ }
 {
     if takes_over(held, new) {
-        return counted(kind, symbols, place, new);
+        return counted(kind, symbols, new);
     }
     held
 }
@@ -133,7 +158,7 @@ pub fn find(
             s,
             place,
         );
-        held = hold(kind, symbols, place, held, new);
+        held = hold(kind, symbols, held, new);
         q += 1;
     }
     held

@@ -3,12 +3,14 @@ use annex10::Repairs;
 use mode_s::header::Validity;
 use mode_s::message::MessageKind;
 use mode_s::message::ModeSMessage;
-use parts::samples_for_place;
-use parts::samples_for_place_short;
-use parts::symbols_for_place;
-use parts::symbols_for_place_short;
+use parts::samples_for_location;
+use parts::samples_for_location_short;
+use parts::symbols_for_location;
+use parts::symbols_for_location_short;
 use place::Place;
 use place::Stepped;
+use place::location::Location;
+use place::location::Neighbour;
 use repairs::rows::bit_errors_from_crc24s;
 use repairs::rows::bit_errors_from_crc24s_short;
 use scan::list::Listed;
@@ -21,8 +23,9 @@ use streams::header::df_is_valid_extended_squitter;
 ghost use mathlib.Core.Path.{_≡_};
 ghost use Prim.Native.Nat.{_*_, min};
 ghost use Rattle.mode_s.specs.Header.{validityTold};
-ghost use Rattle.place.specs.Step.{steppedTold, earlierOf, laterOf};
+ghost use Rattle.place.specs.Step.{steppedTold};
 ghost use Rattle.place.specs.All.{listed, listedAt};
+ghost use Rattle.place.specs.Agrees.{locationNumber, neighbourTold, earlierLocation, laterLocation};
 ghost use Rattle.parts.specs.Part.{symbolsFor, samplesFor};
 ghost use Rattle.streams.specs.Headers.{validityAt};
 ghost use Rattle.repairs.specs.Codes.{codesUpToInto};
@@ -69,39 +72,49 @@ pub fn numbered(kind: MessageKind, k: usize) -> Stepped
     }
 }
 
-pub fn step_back(kind: MessageKind, place: Place) -> Stepped
-    ensures { λ r. ⌜ steppedTold r ≡ earlierOf (kindOf kind .bytes) place ⌝ }
+// What is refused of a location.
+pub fn location_number(kind: MessageKind, location: Location) -> u32
+    ensures { λ r. ⌜ r ≡ locationNumber (kindOf kind .bytes) location ⌝ }
 {
     match kind {
-        MessageKind::Long => place.earlier(),
-        MessageKind::Short => place.earlier_short(),
+        MessageKind::Long => location.refusal(),
+        MessageKind::Short => location.refusal_short(),
     }
 }
 
-pub fn step_on(kind: MessageKind, place: Place) -> Stepped
-    ensures { λ r. ⌜ steppedTold r ≡ laterOf (kindOf kind .bytes) place ⌝ }
+pub fn step_back(kind: MessageKind, location: Location) -> Neighbour
+    ensures { λ r. ⌜ neighbourTold r ≡ earlierLocation (kindOf kind .bytes) location ⌝ }
 {
     match kind {
-        MessageKind::Long => place.later(),
-        MessageKind::Short => place.later_short(),
+        MessageKind::Long => location.earlier(),
+        MessageKind::Short => location.earlier_short(),
     }
 }
 
-pub fn symbols_part(kind: MessageKind, row: &[f32], place: Place) -> &[f32]
-    ensures { λ r. ⌜ now r ≡ symbolsFor (kindOf kind .bytes) (now (row .entry)) place ⌝ }
+pub fn step_on(kind: MessageKind, location: Location) -> Neighbour
+    ensures { λ r. ⌜ neighbourTold r ≡ laterLocation (kindOf kind .bytes) location ⌝ }
 {
     match kind {
-        MessageKind::Long => symbols_for_place(row, place),
-        MessageKind::Short => symbols_for_place_short(row, place),
+        MessageKind::Long => location.later(),
+        MessageKind::Short => location.later_short(),
     }
 }
 
-pub fn samples_part(kind: MessageKind, samples: &[f32], place: Place) -> &[f32]
-    ensures { λ r. ⌜ now r ≡ samplesFor (kindOf kind .bytes) (now (samples .entry)) place ⌝ }
+pub fn symbols_part(kind: MessageKind, row: &[f32], location: Location) -> &[f32]
+    ensures { λ r. ⌜ now r ≡ symbolsFor (kindOf kind .bytes) (now (row .entry)) location ⌝ }
 {
     match kind {
-        MessageKind::Long => samples_for_place(samples, place),
-        MessageKind::Short => samples_for_place_short(samples, place),
+        MessageKind::Long => symbols_for_location(row, location),
+        MessageKind::Short => symbols_for_location_short(row, location),
+    }
+}
+
+pub fn samples_part(kind: MessageKind, samples: &[f32], location: Location) -> &[f32]
+    ensures { λ r. ⌜ now r ≡ samplesFor (kindOf kind .bytes) (now (samples .entry)) location ⌝ }
+{
+    match kind {
+        MessageKind::Long => samples_for_location(samples, location),
+        MessageKind::Short => samples_for_location_short(samples, location),
     }
 }
 

@@ -24,17 +24,12 @@ pub fn narrow_survivor(x: Survivor) -> ShortSurvivor
     ensures { λ r. ⌜ r ≡ shortSurvivor (cutSurvivor x) ⌝ }
 {
     let c = x.candidate;
-    let place = c.place;
-    let slicer = c.slicer;
-    let repairs = c.repairs;
+    let location = c.location;
     let message = c.message;
     ShortSurvivor {
         number: x.number,
         candidate: ShortCandidate {
-            place,
-            trial: c.trial,
-            slicer,
-            repairs,
+            location,
             message: narrow(message),
             prompt: c.prompt,
             cn0: c.cn0,
@@ -46,16 +41,12 @@ pub fn narrow_survivor(x: Survivor) -> ShortSurvivor
 pub fn narrow_answer(a: Answer) -> ShortAnswer
     ensures { λ r. ⌜ r ≡ shortAnswer (cutAnswer a) ⌝ }
 {
-    let place = a.place;
+    let location = a.location;
     let message = a.message;
-    let repairs = a.repairs;
-    let slicer = a.slicer;
     ShortAnswer {
         number: a.number,
-        place,
+        location,
         message: narrow(message),
-        repairs,
-        slicer,
         cn0: a.cn0,
         index: a.index,
         fraction: a.fraction,

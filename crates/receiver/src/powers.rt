@@ -1,16 +1,15 @@
-// The powers of a message at a place.
+// The powers of a message at a location.
 use crate::kinds::samples_part;
 use crate::kinds::symbols_part;
 use kernels::both::Powers;
 use kernels::both::postdecode_powers;
 use mode_s::message::MessageKind;
-use place::Place;
+use place::location::Location;
 ghost use mathlib.Core.Path.{_≡_};
-ghost use mathlib.Core.Bool.{true};
 ghost use lib.ListN.{length};
 ghost use Rattle.kernels.specs.Powers.{powerOf, noiseOf};
-ghost use Rattle.place.specs.Step.{within};
-ghost use Rattle.parts.specs.Part.{symbolsFor, samplesFor};
+ghost use Rattle.place.specs.Agrees.{locationNumber};
+ghost use Rattle.parts.specs.Part.{symbolsAt, samplesAt};
 ghost use Rattle.receiver.specs.Inner.{kindOf};
 
 // In the pulses, and beside them from the window's samples.
@@ -18,13 +17,13 @@ pub fn both_powers(
     kind: MessageKind,
     samples: &[f32],
     row: &[f32],
-    place: Place,
+    location: Location,
     message: &[u8],
 ) -> Powers
-    requires { ⌜ (length (now samples) ≡ 2310) × (length (now row) ≡ 576) × (within (kindOf kind .bytes) place ≡ true) × (length (now message) ≡ kindOf kind .bytes) ⌝ }
-    ensures { λ r. ⌜ r ≡ record { number = 0; prompt = powerOf (kindOf kind .bytes) (symbolsFor (kindOf kind .bytes) (now (row .entry)) place) (now (message .entry)); noise = noiseOf (kindOf kind .bytes) (samplesFor (kindOf kind .bytes) (now (samples .entry)) place) (now (message .entry)) } ⌝ }
+    requires { ⌜ (length (now samples) ≡ 2310) × (length (now row) ≡ 576) × (locationNumber (kindOf kind .bytes) location ≡ 0) × (length (now message) ≡ kindOf kind .bytes) ⌝ }
+    ensures { λ r. ⌜ r ≡ record { number = 0; prompt = powerOf (kindOf kind .bytes) (symbolsAt (kindOf kind .bytes) (now (row .entry)) (location .place)) (now (message .entry)); noise = noiseOf (kindOf kind .bytes) (samplesAt (kindOf kind .bytes) (now (samples .entry)) (location .place)) (now (message .entry)) } ⌝ }
 {
-    let symbols = symbols_part(kind, row, place);
-    let beside = samples_part(kind, samples, place);
+    let symbols = symbols_part(kind, row, location);
+    let beside = samples_part(kind, samples, location);
     postdecode_powers(symbols, beside, message)
 }

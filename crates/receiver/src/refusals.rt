@@ -1,12 +1,14 @@
 // What the calls refuse: the lowest number that applies.
 use crate::kinds::is_listed;
+use crate::kinds::location_number;
 use choice::settings::check_index;
 use choice::settings::check_settings;
 use mode_s::message::MessageKind;
 use place::Place;
+use place::location::Location;
 use search::Settings;
 ghost use mathlib.Core.Path.{_≡_};
-ghost use Rattle.search.specs.Answers.{windowNumber, settingsNumber, indexNumber, placeNumber, orNumber};
+ghost use Rattle.search.specs.Answers.{windowNumber, settingsNumber, indexNumber, placeNumber, searchedNumber, orNumber};
 ghost use Rattle.receiver.specs.Inner.{kindOf};
 
 // A window that has not 2,310 numbers is refused with 2.
@@ -36,6 +38,14 @@ fn or_number(n: u32, m: u32) -> u32
     if n == 0 { m } else { n }
 }
 
+// A location lies at such a place, and its record is one that is taken.
+fn check_location(kind: MessageKind, location: Location) -> u32
+    ensures { λ r. ⌜ r ≡ searchedNumber (kindOf kind) location ⌝ }
+{
+    let place = location.place;
+    or_number(check_place(kind, place), location_number(kind, location))
+}
+
 pub fn read_number(kind: MessageKind, samples: &[f32], s: Settings, place: Place) -> u32
     ensures { λ r. ⌜ r ≡ orNumber (windowNumber (now (samples .entry))) (orNumber (settingsNumber s) (placeNumber (kindOf kind) place)) ⌝ }
 {
@@ -51,12 +61,12 @@ pub fn best_number(samples: &[f32], s: Settings) -> u32
     or_number(check_window(samples), check_settings(s))
 }
 
-pub fn time_number(kind: MessageKind, samples: &[f32], place: Place, index: u64) -> u32
-    ensures { λ r. ⌜ r ≡ orNumber (windowNumber (now (samples .entry))) (orNumber (indexNumber index) (placeNumber (kindOf kind) place)) ⌝ }
+pub fn time_number(kind: MessageKind, samples: &[f32], location: Location, index: u64) -> u32
+    ensures { λ r. ⌜ r ≡ orNumber (windowNumber (now (samples .entry))) (orNumber (indexNumber index) (searchedNumber (kindOf kind) location)) ⌝ }
 {
     or_number(
         check_window(samples),
-        or_number(check_index(index), check_place(kind, place)),
+        or_number(check_index(index), check_location(kind, location)),
     )
 }
 

@@ -1,7 +1,8 @@
-// The six trials at a bit offset of two streams, where what clears the two messages is known.
+// The six trials at a place of two streams, where what clears the two messages is known.
 use crate::trial::then_try;
 use annex10::Found;
 use mode_s::message::MessageKind;
+use place::Place;
 use place::Slicer;
 use search::Tried;
 ghost use mathlib.Core.Path.{_≡_};
@@ -25,13 +26,13 @@ pub fn try_six(
     level: u32,
     coherent: &[u8],
     noncoherent: &[u8],
-    bit: usize,
+    place: Place,
     c: Found,
     d: Found,
     apart: bool,
 ) -> Tried
-    requires { ⌜ Streams (kindOf kind) (now coherent) (now noncoherent) bit × Known (kindOf kind) level (now coherent) (now noncoherent) bit c d apart ⌝ }
-    ensures { λ r. ⌜ r ≡ reading (kindOf kind) level (messageAt (now (coherent .entry)) (kindOf kind .bytes) bit) (messageAt (now (noncoherent .entry)) (kindOf kind .bytes) bit) ⌝ }
+    requires { ⌜ Streams (kindOf kind) (now coherent) (now noncoherent) (place .bit) × Known (kindOf kind) level (now coherent) (now noncoherent) (place .bit) c d apart ⌝ }
+    ensures { λ r. ⌜ r ≡ reading (kindOf kind) level place (messageAt (now (coherent .entry)) (kindOf kind .bytes) (place .bit)) (messageAt (now (noncoherent .entry)) (kindOf kind .bytes) (place .bit)) ⌝ }
 {
     let three = level >= 1;
     let four = both(three, apart);
@@ -44,7 +45,7 @@ pub fn try_six(
         1,
         Slicer::Coherent,
         coherent,
-        bit,
+        place,
         c,
         0,
     );
@@ -55,11 +56,11 @@ pub fn try_six(
         2,
         Slicer::Noncoherent,
         noncoherent,
-        bit,
+        place,
         d,
         0,
     );
-    let t = then_try(kind, t, three, 3, Slicer::Coherent, coherent, bit, c, 1);
+    let t = then_try(kind, t, three, 3, Slicer::Coherent, coherent, place, c, 1);
     let t = then_try(
         kind,
         t,
@@ -67,10 +68,20 @@ pub fn try_six(
         4,
         Slicer::Noncoherent,
         noncoherent,
-        bit,
+        place,
         d,
         1,
     );
-    let t = then_try(kind, t, five, 5, Slicer::Coherent, coherent, bit, c, 2);
-    then_try(kind, t, six, 6, Slicer::Noncoherent, noncoherent, bit, d, 2)
+    let t = then_try(kind, t, five, 5, Slicer::Coherent, coherent, place, c, 2);
+    then_try(
+        kind,
+        t,
+        six,
+        6,
+        Slicer::Noncoherent,
+        noncoherent,
+        place,
+        d,
+        2,
+    )
 }

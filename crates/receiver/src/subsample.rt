@@ -8,69 +8,69 @@ use kernels::power::Power;
 use kernels::power::postdecode_power;
 use math::parabolic_interpolation;
 use mode_s::message::MessageKind;
-use place::Place;
-use place::Stepped;
+use place::location::Location;
+use place::location::Neighbour;
 use timing::Offset;
 use timing::Timing;
 use timing::subsample_timing;
 ghost use mathlib.Core.Path.{_≡_};
-ghost use mathlib.Core.Bool.{true};
 ghost use Prim.Native.Nat.{_+_, _-_, _*_, _<_};
 ghost use lib.ListN.{length, take, drop};
-ghost use Rattle.place.specs.Step.{sampleStart, startingAt, lastSymbol, within};
-ghost use Rattle.place.specs.All.{listed};
-ghost use Rattle.parts.specs.Part.{symbolsFor};
-ghost use Rattle.search.specs.When.{timingAt};
-ghost use Rattle.receiver.specs.Inner.{kindOf, powerIn, aroundIn, timedBy, seenIn};
+ghost use Rattle.place.specs.Step.{sampleStart, lastSymbol};
+ghost use Rattle.place.specs.Agrees.{locationNumber};
+ghost use Rattle.parts.specs.Part.{symbolsAt};
+ghost use Rattle.search.specs.When.{startedAt, timingAt};
+ghost use Rattle.receiver.specs.Inner.{kindOf, Searched, powerIn, aroundIn, timedBy, seenIn};
 
-// The symbols of a place, from those of all clock phases.
-fn symbols_at(kind: MessageKind, symbols: &[f32], place: Place) -> &[f32]
-    requires { ⌜ (length (now symbols) ≡ 2304) × (within (kindOf kind .bytes) place ≡ true) ⌝ }
-    ensures { λ r. ⌜ now r ≡ symbolsFor (kindOf kind .bytes) (take 576 (drop (576 * place .phase) (now (symbols .entry)))) place ⌝ }
+// The symbols of a location, from those of all clock phases.
+fn symbols_at(kind: MessageKind, symbols: &[f32], location: Location) -> &[f32]
+    requires { ⌜ (length (now symbols) ≡ 2304) × (locationNumber (kindOf kind .bytes) location ≡ 0) ⌝ }
+    ensures { λ r. ⌜ now r ≡ symbolsAt (kindOf kind .bytes) (take 576 (drop (576 * location .place .phase) (now (symbols .entry)))) (location .place) ⌝ }
 {
+    let place = location.place;
     let from = 576 * place.phase;
     let to = from + 576;
-    symbols_part(kind, &symbols[from..to], place)
+    symbols_part(kind, &symbols[from..to], location)
 }
 
-// The power of a message at a place.
-pub fn power_at(kind: MessageKind, symbols: &[f32], place: Place, message: &[u8]) -> f32
-    requires { ⌜ (length (now symbols) ≡ 2304) × (within (kindOf kind .bytes) place ≡ true) × (length (now message) ≡ kindOf kind .bytes) ⌝ }
-    ensures { λ r. ⌜ r ≡ powerIn (kindOf kind) (now (symbols .entry)) place (now (message .entry)) ⌝ }
+// The power of a message at a location.
+pub fn power_at(kind: MessageKind, symbols: &[f32], location: Location, message: &[u8]) -> f32
+    requires { ⌜ (length (now symbols) ≡ 2304) × (locationNumber (kindOf kind .bytes) location ≡ 0) × (length (now message) ≡ kindOf kind .bytes) ⌝ }
+    ensures { λ r. ⌜ r ≡ powerIn (kindOf kind) (now (symbols .entry)) (location .place) (now (message .entry)) ⌝ }
 {
-    match postdecode_power(symbols_at(kind, symbols, place), message) {
+    match postdecode_power(symbols_at(kind, symbols, location), message) {
         Power::Is(power) => power,
         Power::Refused(_) => 0.0,
     }
 }
 
-fn earlier(kind: MessageKind, place: Place) -> Place
-    requires { ⌜ (within (kindOf kind .bytes) place ≡ true) × (0 < sampleStart place) ⌝ }
-    ensures { λ r. ⌜ (r ≡ startingAt (sampleStart place - 1)) × (within (kindOf kind .bytes) r ≡ true) ⌝ }
+fn earlier(kind: MessageKind, location: Location) -> Location
+    requires { ⌜ (locationNumber (kindOf kind .bytes) location ≡ 0) × (0 < sampleStart (location .place)) ⌝ }
+    ensures { λ r. ⌜ (r ≡ startedAt location (sampleStart (location .place) - 1)) × (locationNumber (kindOf kind .bytes) r ≡ 0) ⌝ }
 {
-    match step_back(kind, place) {
-        Stepped::To(p) => p,
-        Stepped::Refused(_) => place,
+    match step_back(kind, location) {
+        Neighbour::At(l) => l,
+        Neighbour::Refused(_) => location,
     }
 }
 
-fn later(kind: MessageKind, place: Place) -> Place
-    requires { ⌜ (within (kindOf kind .bytes) place ≡ true) × (sampleStart place < 4 * lastSymbol (kindOf kind .bytes) + 3) ⌝ }
-    ensures { λ r. ⌜ (r ≡ startingAt (sampleStart place + 1)) × (within (kindOf kind .bytes) r ≡ true) ⌝ }
+fn later(kind: MessageKind, location: Location) -> Location
+    requires { ⌜ (locationNumber (kindOf kind .bytes) location ≡ 0) × (sampleStart (location .place) < 4 * lastSymbol (kindOf kind .bytes) + 3) ⌝ }
+    ensures { λ r. ⌜ (r ≡ startedAt location (sampleStart (location .place) + 1)) × (locationNumber (kindOf kind .bytes) r ≡ 0) ⌝ }
 {
-    match step_on(kind, place) {
-        Stepped::To(p) => p,
-        Stepped::Refused(_) => place,
+    match step_on(kind, location) {
+        Neighbour::At(l) => l,
+        Neighbour::Refused(_) => location,
     }
 }
 
 // At its neighbours: one and two clock phases either way.
-fn around(kind: MessageKind, symbols: &[f32], place: Place, message: &[u8]) -> Around
-    requires { ⌜ (length (now symbols) ≡ 2304) × (listed (kindOf kind .last) place ≡ true) × (length (now message) ≡ kindOf kind .bytes) ⌝ }
-    ensures { λ r. ⌜ r ≡ aroundIn (kindOf kind) (now (symbols .entry)) (now (message .entry)) (sampleStart place) ⌝ }
+fn around(kind: MessageKind, symbols: &[f32], location: Location, message: &[u8]) -> Around
+    requires { ⌜ (length (now symbols) ≡ 2304) × Searched (kindOf kind) location × (length (now message) ≡ kindOf kind .bytes) ⌝ }
+    ensures { λ r. ⌜ r ≡ aroundIn (kindOf kind) (now (symbols .entry)) (now (message .entry)) (sampleStart (location .place)) ⌝ }
 {
-    let before = earlier(kind, place);
-    let after = later(kind, place);
+    let before = earlier(kind, location);
+    let after = later(kind, location);
     powers_around(
         symbols_at(kind, symbols, earlier(kind, before)),
         symbols_at(kind, symbols, before),
@@ -112,12 +112,12 @@ fn time_by(power: f32, a: Around) -> Timing
 pub fn subsample(
     kind: MessageKind,
     symbols: &[f32],
-    place: Place,
+    location: Location,
     message: &[u8],
     power: f32,
 ) -> Timing
-    requires { ⌜ (length (now symbols) ≡ 2304) × (listed (kindOf kind .last) place ≡ true) × (length (now message) ≡ kindOf kind .bytes) × (power ≡ powerIn (kindOf kind) (now symbols) place (now message)) ⌝ }
-    ensures { λ r. ⌜ r ≡ timingAt (seenIn (kindOf kind) (now (symbols .entry))) (now (message .entry)) (sampleStart place) ⌝ }
+    requires { ⌜ (length (now symbols) ≡ 2304) × Searched (kindOf kind) location × (length (now message) ≡ kindOf kind .bytes) × (power ≡ powerIn (kindOf kind) (now symbols) (location .place) (now message)) ⌝ }
+    ensures { λ r. ⌜ r ≡ timingAt (seenIn (kindOf kind) (now (symbols .entry))) (now (message .entry)) location ⌝ }
 {
-    time_by(power, around(kind, symbols, place, message))
+    time_by(power, around(kind, symbols, location, message))
 }

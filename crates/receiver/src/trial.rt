@@ -1,11 +1,12 @@
 // One trial: the positions that are found, and the header of the message that they repair.
 use crate::kinds::header_at;
 use annex10::Found;
-use choice::best::repairs_of;
+use annex10::repairs_of;
 use mode_s::header::Validity;
 use mode_s::message::MessageKind;
+use place::Place;
 use place::Slicer;
-use search::Reading;
+use place::location::Location;
 use search::Tried;
 ghost use mathlib.Core.Path.{_≡_};
 ghost use mathlib.Core.Bool.{true};
@@ -27,24 +28,25 @@ fn only(found: Found, n: u32) -> Found
     Found::Nothing
 }
 
-// The message at a bit offset of a stream with n positions repaired, those that clear it being given.
+// The message at a place of a stream with n positions repaired, those that clear it being given.
 fn try_one(
     kind: MessageKind,
     number: u8,
     slicer: Slicer,
     stream: &[u8],
-    bit: usize,
+    place: Place,
     found: Found,
     n: u32,
 ) -> Tried
-    requires { ⌜ Stream (kindOf kind) (now stream) bit × (foundInside (kindOf kind) found ≡ true) ⌝ }
-    ensures { λ r. ⌜ r ≡ checked (kindOf kind) number slicer (messageAt (now (stream .entry)) (kindOf kind .bytes) bit) (only found n) ⌝ }
+    requires { ⌜ Stream (kindOf kind) (now stream) (place .bit) × (foundInside (kindOf kind) found ≡ true) ⌝ }
+    ensures { λ r. ⌜ r ≡ checked (kindOf kind) place number slicer (messageAt (now (stream .entry)) (kindOf kind .bytes) (place .bit)) (only found n) ⌝ }
 {
     let Found::At(repairs) = only(found, n) else {
         return Tried::Fail;
     };
-    match header_at(kind, stream, bit, repairs) {
-        Validity::Valid => Tried::Pass(Reading {
+    match header_at(kind, stream, place.bit, repairs) {
+        Validity::Valid => Tried::Pass(Location {
+            place,
             trial: number,
             slicer,
             repairs,
@@ -63,12 +65,12 @@ pub fn then_try(
     number: u8,
     slicer: Slicer,
     stream: &[u8],
-    bit: usize,
+    place: Place,
     found: Found,
     n: u32,
 ) -> Tried
-    requires { ⌜ Stream (kindOf kind) (now stream) bit × (foundInside (kindOf kind) found ≡ true) ⌝ }
-    ensures { λ r. ⌜ r ≡ orTry before (given made (checked (kindOf kind) number slicer (messageAt (now (stream .entry)) (kindOf kind .bytes) bit) (only found n))) ⌝ }
+    requires { ⌜ Stream (kindOf kind) (now stream) (place .bit) × (foundInside (kindOf kind) found ≡ true) ⌝ }
+    ensures { λ r. ⌜ r ≡ orTry before (given made (checked (kindOf kind) place number slicer (messageAt (now (stream .entry)) (kindOf kind .bytes) (place .bit)) (only found n))) ⌝ }
 {
     let Tried::Fail = before else {
         return before;
@@ -76,5 +78,5 @@ pub fn then_try(
     if !made {
         return Tried::Fail;
     }
-    try_one(kind, number, slicer, stream, bit, found, n)
+    try_one(kind, number, slicer, stream, place, found, n)
 }

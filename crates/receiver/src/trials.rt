@@ -1,4 +1,4 @@
-// The reading at a bit offset of two streams: what clears the two messages is worked out here.
+// The reading of a place, from its two streams: what clears the two messages is worked out here.
 use crate::six::try_six;
 use annex10::Found;
 use annex10::Repairs;
@@ -23,8 +23,8 @@ pub enum Attempt {
     Refused(u32),
 }
 
-fn try_number(level: u32, coherent: &[u8], noncoherent: &[u8], bit: usize) -> u32
-    ensures { λ r. ⌜ r ≡ tryNumber level (now (coherent .entry)) (now (noncoherent .entry)) bit ⌝ }
+fn try_number(level: u32, coherent: &[u8], noncoherent: &[u8], place: Place) -> u32
+    ensures { λ r. ⌜ r ≡ tryNumber level (now (coherent .entry)) (now (noncoherent .entry)) place ⌝ }
 {
     if coherent.len() != 18 {
         return 2;
@@ -35,7 +35,7 @@ fn try_number(level: u32, coherent: &[u8], noncoherent: &[u8], bit: usize) -> u3
     if level > 2 {
         return 4;
     }
-    if bit > Place::BIT_MAX {
+    if !place.is_listed() {
         return 7;
     }
     0
@@ -65,15 +65,16 @@ fn bit_errors(crc: u32) -> Found
     double_bit_error_from_crc24(crc)
 }
 
-// The reading of the two messages at a bit offset. Refused: 2 a stream that has not 18 bytes, 4 a level above 2, 7 a bit offset
-// above 32.
-pub fn try_decode(level: u32, coherent: &[u8], noncoherent: &[u8], bit: usize) -> Attempt
-    ensures { λ r. ⌜ attemptTold r ≡ triedAt level (now (coherent .entry)) (now (noncoherent .entry)) bit ⌝ }
+// The reading of one of the 248 places, from the two streams in which it lies. Refused: 2 a stream that has not 18 bytes, 4 a level above
+// 2, 7 another place.
+pub fn try_decode(level: u32, coherent: &[u8], noncoherent: &[u8], place: Place) -> Attempt
+    ensures { λ r. ⌜ attemptTold r ≡ triedAt level (now (coherent .entry)) (now (noncoherent .entry)) place ⌝ }
 {
-    let number = try_number(level, coherent, noncoherent, bit);
+    let number = try_number(level, coherent, noncoherent, place);
     if number != 0 {
         return Attempt::Refused(number);
     }
+    let bit = place.bit;
     let c = crc_at(coherent, bit);
     let d = crc_at(noncoherent, bit);
     let first = bit_errors(c);
@@ -83,7 +84,7 @@ pub fn try_decode(level: u32, coherent: &[u8], noncoherent: &[u8], bit: usize) -
         level,
         coherent,
         noncoherent,
-        bit,
+        place,
         first,
         second,
         c != d,

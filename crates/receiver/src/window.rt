@@ -358,7 +358,7 @@ fn read_alone(
     if read.number != 0 {
         return read;
     }
-    counted(kind, &symbols, place, read)
+    counted(kind, &symbols, read)
 }
 
 // The surviving reading of one place, of long messages.

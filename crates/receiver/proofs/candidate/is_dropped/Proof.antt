@@ -17,10 +17,10 @@ enum-told : tie.Need-enum-told
 enum-told c = search needs
 
 returns : tie.Need-returns
-returns c = filter-is _ _ _ (c .before .before .before .before .pre) (ap filteredTold (sym (c .before .gone .given .1)) ∙ c .before .before .before .filter-out-decode-candidate .ensures)
+returns c = filter-is _ _ _ (c .before .before .before .before .pre .0) (c .before .before .before .before .pre .1) (ap filteredTold (sym (c .before .gone .given .1)) ∙ c .before .before .before .filter-out-decode-candidate .ensures)
 
 returns-2 : tie.Need-returns-2
-returns-2 c = absurd (filter-never _ _ _ (c .before .before .before .pre) (ap filteredTold (sym (c .enum-told .given .1)) ∙ c .before .before .filter-out-decode-candidate .ensures))
+returns-2 c = absurd (filter-never _ _ _ (c .before .before .before .pre .0) (c .before .before .before .pre .1) (ap filteredTold (sym (c .enum-told .given .1)) ∙ c .before .before .filter-out-decode-candidate .ensures))
 
 pub is-dropped-spec : {M : Type 1} → statement M
 is-dropped-spec =

@@ -52,7 +52,7 @@ time-in-requires c κs =
     let z = c .before .before .before .before .before .before .before .before .before .if1 .left in
     let h : c .before .before .before .before .before .bytes-of .result ≤ length (a .read .candidate .message) = omega (arith, l, e, right (a .kind) .high) in
     let m = symbols-set (a .sums .now) _ (s .pre .0) refl (c .before .before .before .symbols-of-sums .ensures) in
-    (ap length m ∙ set-length (a .sums .now), s .pre .3 .place z, s .pre .1, s .pre .2, length-take-le _ _ h ∙ e, weighed-there k (a .sums .now) (a .read) (s .pre .3) z e m)
+    (ap length m ∙ set-length (a .sums .now), s .pre .3 .at z, s .pre .1, s .pre .2, length-take-le _ _ h ∙ e, weighed-there k (a .sums .now) (a .read) (s .pre .3) z e m)
 
 returns-2 : tie.Need-returns-2
 returns-2 c =

@@ -1,6 +1,7 @@
 -- `receiver::decode::decode` meets its contract. Assumes nothing.
 use mathlib.Core.Path.{refl}
 use Rattle.search.specs.Kinds.{long}
+use Rattle.receiver.proofs.EitherKind.{right-long}
 use Rattle.receiver.proofs.Deciding.{decode-taken, decode-refused, answer-asks, decoded-long}
 use borrow.Author.Needs.{needs}
 use Rattle.receiver.proofs.decode.decode.Statement.{statement}
@@ -33,7 +34,7 @@ answer-of-requires : tie.Need-answer-of-requires
 answer-of-requires c κs =
     let a = c .before .before .before .before .before .before .before .args in
     let x = c .before .before .best-of .ensures in
-    answer-asks (a .samples .now) (a .s) (a .index) (c .before .before .before .before .before .decode-number .ensures) (c .before .before .before .before .if1 .left) (x .1) long (x .0)
+    answer-asks (a .samples .now) (a .s) (a .index) (c .before .before .before .before .before .decode-number .ensures) (c .before .before .before .before .if1 .left) (x .1) long right-long (x .0)
 
 returns-2 : tie.Need-returns-2
 returns-2 c =

@@ -3,6 +3,7 @@ use mathlib.Core.Path.{refl, ap, _∙_}
 use Rattle.search.specs.Kinds.{long, short}
 use Rattle.search.specs.Short.{shortAnswer}
 use Rattle.receiver.specs.Inner.{cutAnswer}
+use Rattle.receiver.proofs.EitherKind.{right-long, right-short}
 use Rattle.receiver.proofs.Deciding.{decode-taken, decode-refused, answer-asks, decoded-long, decoded-short, both-are}
 use Rattle.receiver.proofs.Widening.{refused-short}
 use borrow.Author.Needs.{needs}
@@ -46,7 +47,7 @@ answer-of-requires : tie.Need-answer-of-requires
 answer-of-requires c κs =
     let a = c .before .before .before .before .before .before .before .before .before .args in
     let x = c .before .before .before .before .best-of-both .ensures in
-    answer-asks (a .samples .now) (a .s) (a .index) (c .before .before .before .before .before .before .before .decode-number .ensures) (c .before .before .before .before .before .before .if1 .left) (x .2) long (x .0)
+    answer-asks (a .samples .now) (a .s) (a .index) (c .before .before .before .before .before .before .before .decode-number .ensures) (c .before .before .before .before .before .before .if1 .left) (x .2) long right-long (x .0)
 
 slice-aggregate-answer-of-2 : tie.Need-slice-aggregate-answer-of-2
 slice-aggregate-answer-of-2 c = search needs
@@ -55,7 +56,7 @@ answer-of-requires-2 : tie.Need-answer-of-requires-2
 answer-of-requires-2 c κs =
     let a = c .before .before .before .before .before .before .before .before .before .before .before .args in
     let x = c .before .before .before .before .before .before .best-of-both .ensures in
-    answer-asks (a .samples .now) (a .s) (a .index) (c .before .before .before .before .before .before .before .before .before .decode-number .ensures) (c .before .before .before .before .before .before .before .before .if1 .left) (x .2) short (x .1)
+    answer-asks (a .samples .now) (a .s) (a .index) (c .before .before .before .before .before .before .before .before .before .decode-number .ensures) (c .before .before .before .before .before .before .before .before .if1 .left) (x .2) short right-short (x .1)
 
 narrow-answer-requires-2 : tie.Need-narrow-answer-requires-2
 narrow-answer-requires-2 c κs = search needs

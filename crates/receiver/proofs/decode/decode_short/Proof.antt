@@ -3,6 +3,7 @@ use mathlib.Core.Path.{refl, ap, _∙_}
 use Rattle.search.specs.Kinds.{short}
 use Rattle.search.specs.Short.{shortAnswer}
 use Rattle.receiver.specs.Inner.{cutAnswer}
+use Rattle.receiver.proofs.EitherKind.{right-short}
 use Rattle.receiver.proofs.Deciding.{decode-taken, decode-refused, answer-asks, decoded-short}
 use Rattle.receiver.proofs.Widening.{refused-short}
 use borrow.Author.Needs.{needs}
@@ -40,7 +41,7 @@ answer-of-requires : tie.Need-answer-of-requires
 answer-of-requires c κs =
     let a = c .before .before .before .before .before .before .before .args in
     let x = c .before .before .best-of-short .ensures in
-    answer-asks (a .samples .now) (a .s) (a .index) (c .before .before .before .before .before .decode-number .ensures) (c .before .before .before .before .if1 .left) (x .1) short (x .0)
+    answer-asks (a .samples .now) (a .s) (a .index) (c .before .before .before .before .before .decode-number .ensures) (c .before .before .before .before .if1 .left) (x .1) short right-short (x .0)
 
 narrow-answer-requires-2 : tie.Need-narrow-answer-requires-2
 narrow-answer-requires-2 c κs = search needs

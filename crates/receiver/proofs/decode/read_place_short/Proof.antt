@@ -38,9 +38,8 @@ returns-2 c =
     let a = c .before .before .before .before .before .args in
     let n = c .before .before .before .read-number .ensures in
     let z = c .before .before .if1 .left in
-    let t = read-taken short (a .samples .now) z (a .s) (a .place) n in
     c .narrow-survivor2 .ensures
-    ∙ ap shortSurvivor (read-done short (a .samples .now) (a .s) (a .place) n z (held-short _ (place-fit short (a .s) (a .samples .now) (a .place) (t .1)) (c .before .reading-at-short .ensures)))
+    ∙ ap shortSurvivor (read-done short (a .samples .now) (a .s) (a .place) n z (held-short _ (place-fit short (a .s) (a .samples .now) (a .place)) (c .before .reading-at-short .ensures)))
 
 pub read-place-short-spec : {M : Type 1} → statement M
 read-place-short-spec =

@@ -1,12 +1,15 @@
 -- `receiver::decode::refused` meets its contract. Assumes nothing.
 use Rattle.search.specs.Kinds.{long}
-use mathlib.Core.Path.{refl}
+use borrow.Author.Needs.{needs}
 use Rattle.receiver.proofs.decode.refused.Statement.{statement}
 use Rattle.receiver.proofs.decode.refused.Tie as tie
 
+nowhere-requires : tie.Need-nowhere-requires
+nowhere-requires c κs = search needs
+
 returns : tie.Need-returns
 unfolding long
-returns c = refl
+returns c = rw (c .nowhere .ensures)
 
 pub refused-spec : {M : Type 1} → statement M
-refused-spec = tie.close (tie.spec returns)
+refused-spec = tie.close (tie.spec nowhere-requires returns)

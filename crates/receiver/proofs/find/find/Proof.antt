@@ -14,7 +14,7 @@ use Rattle.search.specs.Seen.{seen}
 use Rattle.receiver.specs.Inner.{kindOf, heldOf, over}
 use Rattle.receiver.proofs.EitherKind.{right}
 use borrow.Author.Needs.{needs}
-use Rattle.receiver.proofs.Counted.{chosen-counted}
+use Rattle.receiver.proofs.Counted.{read-taken, chosen-counted}
 use Rattle.receiver.proofs.Finding.{sums-length}
 use Rattle.receiver.proofs.Listed.{found-none, found-more, listed-finds}
 use Rattle.receiver.proofs.find.find.Statement.{statement}
@@ -93,8 +93,10 @@ hold-requires c κs =
     let l = c .before .before .before .before .before .before .loop in
     let s = c .before .before .before .before .before .before .before .before .before .before .before .before .before .before .before .before in
     let h : l .q < s .args .count = omega (arith, c .before .before .before .before .before .loop-test .taken) in
-    let k = getD (s .args .list .now) (l .q) 0 in
-    (sums-length _ _ _ _ _ _ _ (s .pre .0), subst (λ (p : Place). listed (kindOf (s .args .kind) .last) p ≡ true) (sym (c .before .before .before .place-at .ensures)) (listed-at (kindOf (s .args .kind) .last) k (s .pre .1 .low (l .q) h)))
+    let a = s .args in
+    let k = kindOf (a .kind) in
+    let t = subst (λ (p : Place). listed (k .last) p ≡ true) (sym (c .before .before .before .place-at .ensures)) (listed-at (k .last) (getD (a .list .now) (l .q) 0) (s .pre .1 .low (l .q) h)) in
+    (sums-length _ _ _ _ _ _ _ (s .pre .0), read-taken k (right (a .kind)) (a .samples .now) (a .symbols .now) (s .pre .0 .sums) _ t (a .s) (c .read-at .ensures))
 
 add-q : tie.Need-add-q Inv-loop μ-loop
 add-q c = let s = c .before .before .before .before .before .before .before .before .before .before .before .before .before .before .before .before .before in omega (arith, s .pre .1 .few, right (s .args .kind) .last)

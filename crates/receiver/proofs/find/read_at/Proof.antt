@@ -4,10 +4,9 @@ use mathlib.Core.Path.{refl}
 use Prim.Native.Nat.{_+_, _-_, _*_, min}
 use native.Mathlib.Omega.{arith}
 use lib.ListN.{length-take, length-drop}
-use Rattle.place.proofs.Within.{listed-gives}
-use Rattle.receiver.proofs.Prompting.{room}
+use Rattle.place.proofs.Within.{listed-gives, within-is}
 use Rattle.receiver.specs.Inner.{kindOf}
-use Rattle.receiver.proofs.EitherKind.{right}
+use Rattle.receiver.proofs.EitherKind.{right, within-listed}
 use Rattle.receiver.proofs.Finding.{scanned-sizes, sums-length, starts, lent-streams, lent-known, lent-read}
 use borrow.Author.Needs.{needs}
 use Rattle.receiver.proofs.find.read_at.Statement.{statement}
@@ -87,7 +86,7 @@ read-streams-requires c κs =
       s .pre .0 .scanned .whole,
       simp (length-take, length-drop) (omega (arith, l .phase, y)),
       lent-streams (kindOf (s .args .kind)) (right (s .args .kind)) (s .args .samples .now) (s .args .symbols .now) (s .args .coherent .now) (s .args .noncoherent .now) (s .args .crcs .now) (s .args .others .now) (s .pre .0) p (s .pre .1) a b,
-      room (kindOf (s .args .kind)) (right (s .args .kind)) p (s .pre .1) .within-it,
+      within-is (kindOf (s .args .kind) .bytes) p (within-listed (kindOf (s .args .kind)) (right (s .args .kind)) p (s .pre .1)),
       s .pre .2,
       lent-known (kindOf (s .args .kind)) (right (s .args .kind)) (s .args .samples .now) (s .args .symbols .now) (s .args .coherent .now) (s .args .noncoherent .now) (s .args .crcs .now) (s .args .others .now) (s .pre .0) p (s .pre .1) a b (min (s .args .s .level) (kindOf (s .args .kind) .most)) (8 * p .bit + (4 * p .symbol + p .phase) - 8) (s .args .c) (s .args .d) (starts (kindOf (s .args .kind) .last) p (s .pre .1) .lane) (s .pre .3) (s .pre .4) (c .before .bit-errors-by .ensures) (c .bit-errors-by2 .ensures) refl,
     )

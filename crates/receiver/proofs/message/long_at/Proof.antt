@@ -24,9 +24,9 @@ correct-message-bit-errors-requires c κs = search needs
 returns : tie.Need-returns
 unfolding long
 returns c =
-    let s = c .before .before .before .before .before .before .before .before in
-    message-is long right-long (s .args .coherent .now) (s .args .noncoherent .now) (s .args .bit) (s .args .slicer) (s .args .repairs) (s .pre .0) (s .pre .1)
-    (c .before .before .before .before .before .slicer-part .ensures) (ap (λ (m : Message). m .bytes) (c .before .before .before .before .message-from-part .ensures)) (c .before .correct-message-bit-errors .ensures)
+    let s = c .before .before .before .before .before .before .before .before .before in
+    message-is long right-long (s .args .coherent .now) (s .args .noncoherent .now) (s .args .location) (s .pre .0) (s .pre .1)
+    (c .before .before .before .before .before .before .slicer-part .ensures) (ap (λ (m : Message). m .bytes) (c .before .before .before .before .message-from-part .ensures)) (c .before .correct-message-bit-errors .ensures)
 
 pub long-at-spec : {M : Type 1} → statement M
 long-at-spec =

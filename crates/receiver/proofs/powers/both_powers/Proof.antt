@@ -19,7 +19,7 @@ postdecode-powers-requires c κs = search needs
 returns : tie.Need-returns
 returns c =
     let s = c .before .before .before .before .before .before in
-    both-is (kindOf (s .args .kind)) (right (s .args .kind)) (s .args .samples .now) (s .args .row .now) (s .args .place) (s .args .message .now)
+    both-is (kindOf (s .args .kind)) (right (s .args .kind)) (s .args .samples .now) (s .args .row .now) (s .args .location) (s .args .message .now)
     (s .pre .0) (s .pre .1) (s .pre .2) (s .pre .3)
     (c .before .before .symbols-part .ensures) (c .before .samples-part .ensures) (c .postdecode-powers .ensures)
 

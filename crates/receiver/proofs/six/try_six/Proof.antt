@@ -33,7 +33,7 @@ then-try-requires-6 c κs = let s = c .before .before .before .before .before .b
 returns : tie.Need-returns
 returns c =
     let k = c .before .before .before .before .before .before .before .before .before .before .pre .1 in
-    in-turn _ _ _ _ _ _ _
+    in-turn _ _ _ _ _ _ _ _
     (c .before .before .before .before .before .before .before .both .ensures)
     (c .before .before .before .before .before .before .both2 .ensures)
     (c .before .before .before .before .before .then-try .ensures)
@@ -42,7 +42,7 @@ returns c =
     (c .before .before .then-try4 .ensures)
     (c .before .then-try5 .ensures)
     (c .then-try6 .ensures)
-    ∙ reading-by _ _ _ _ (k .first) (k .second) (k .differ)
+    ∙ reading-by _ _ _ _ _ (k .first) (k .second) (k .differ)
 
 pub try-six-spec : {M : Type 1} → statement M
 try-six-spec =

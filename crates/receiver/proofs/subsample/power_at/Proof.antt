@@ -24,14 +24,14 @@ enum-told c = search needs
 returns : tie.Need-returns
 returns c =
     let s = c .before .before .before .before .before .before .before in
-    let e = power-in (kindOf (s .args .kind)) (right (s .args .kind)) (s .args .symbols .now) (s .args .place) (s .args .message .now) (c .before .before .before .postdecode-power .result) (s .pre .0) (s .pre .1) (s .pre .2) (c .before .before .before .before .symbols-at .ensures) (c .before .before .before .postdecode-power .ensures) in
+    let e = power-in (kindOf (s .args .kind)) (right (s .args .kind)) (s .args .symbols .now) (s .args .location) (s .args .message .now) (c .before .before .before .postdecode-power .result) (s .pre .0) (s .pre .1) (s .pre .2) (c .before .before .before .before .symbols-at .ensures) (c .before .before .before .postdecode-power .ensures) in
     let f = c .before .power .given .1 in
     cc
 
 returns-2 : tie.Need-returns-2
 returns-2 c =
     let s = c .before .before .before .before .before .before in
-    let e = power-in (kindOf (s .args .kind)) (right (s .args .kind)) (s .args .symbols .now) (s .args .place) (s .args .message .now) (c .before .before .postdecode-power .result) (s .pre .0) (s .pre .1) (s .pre .2) (c .before .before .before .symbols-at .ensures) (c .before .before .postdecode-power .ensures) in
+    let e = power-in (kindOf (s .args .kind)) (right (s .args .kind)) (s .args .symbols .now) (s .args .location) (s .args .message .now) (c .before .before .postdecode-power .result) (s .pre .0) (s .pre .1) (s .pre .2) (c .before .before .before .symbols-at .ensures) (c .before .before .postdecode-power .ensures) in
     let f = c .enum-told .given .1 in
     let z : _≡_ {A = ℕ} 0 1 = cc in
     absurd (omega arith)

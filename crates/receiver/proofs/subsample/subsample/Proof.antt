@@ -17,7 +17,7 @@ returns : tie.Need-returns
 returns c =
     let s = c .before .before .before .before in
     c .time-by .ensures
-    ∙ rw (c .before .around .ensures) (timed-by (kindOf (s .args .kind)) (right (s .args .kind)) (s .args .symbols .now) (s .args .message .now) (s .args .place) (s .pre .1) (s .pre .3))
+    ∙ rw (c .before .around .ensures) (timed-by (kindOf (s .args .kind)) (right (s .args .kind)) (s .args .symbols .now) (s .args .message .now) (s .args .location) (s .pre .1 .place) (s .pre .3))
 
 pub subsample-spec : {M : Type 1} → statement M
 subsample-spec = tie.close (tie.spec around-requires time-by-requires returns)

@@ -25,13 +25,13 @@ returns : tie.Need-returns
 returns c =
     let s = c .before .before .before .before .before .before in
     let a = s .args in
-    same-values (ap undecidedTold (sym (c .before .n .given .1)) ∙ undecided-is (kindOf (a .kind)) (right (a .kind)) (a .row .now) (a .place) (a .slicer) (s .pre .0) (s .pre .1) (c .before .before .before .before .symbols-part .ensures) (c .before .before .before .count-undecided .ensures))
+    same-values (ap undecidedTold (sym (c .before .n .given .1)) ∙ undecided-is (kindOf (a .kind)) (right (a .kind)) (a .row .now) (a .location) (s .pre .0) (s .pre .1) (c .before .before .before .before .symbols-part .ensures) (c .before .before .before .count-undecided .ensures))
 
 returns-2 : tie.Need-returns-2
 returns-2 c =
     let s = c .before .before .before .before .before in
     let a = s .args in
-    absurd (not-done (ap undecidedTold (sym (c .enum-told .given .1)) ∙ undecided-is (kindOf (a .kind)) (right (a .kind)) (a .row .now) (a .place) (a .slicer) (s .pre .0) (s .pre .1) (c .before .before .before .symbols-part .ensures) (c .before .before .count-undecided .ensures)))
+    absurd (not-done (ap undecidedTold (sym (c .enum-told .given .1)) ∙ undecided-is (kindOf (a .kind)) (right (a .kind)) (a .row .now) (a .location) (s .pre .0) (s .pre .1) (c .before .before .before .symbols-part .ensures) (c .before .before .count-undecided .ensures)))
 
 pub undecided-at-spec : {M : Type 1} → statement M
 undecided-at-spec =

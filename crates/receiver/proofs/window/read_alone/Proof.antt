@@ -10,7 +10,7 @@ use Rattle.kernels.proofs.Summing.{symbols-length, symbols-out}
 use Rattle.receiver.specs.Inner.{kindOf}
 use Rattle.receiver.proofs.EitherKind.{right}
 use Rattle.receiver.proofs.Weighing.{level-low}
-use Rattle.receiver.proofs.Counted.{counted-read, counted-none}
+use Rattle.receiver.proofs.Counted.{read-taken, counted-read, counted-none}
 use Rattle.receiver.proofs.Finding.{scanned-sizes}
 use Rattle.receiver.proofs.Repaired.{two-codes, both-asked}
 use borrow.Author.Needs.{needs}
@@ -133,7 +133,9 @@ slice-aggregate-counted c = search needs
 counted-requires : tie.Need-counted-requires
 counted-requires c κs =
     let s = c .before .before .before .before .before .before .before .before .before .before .before .before .before .before .before .before .before .before .before .before .before .before .before in
-    (ap length (symbols-out (s .args .samples .now) _ _ (s .pre .3) refl (c .before .before .before .before .before .before .symbols-of-sums .ensures)) ∙ symbols-length (s .args .samples .now), s .pre .1)
+    let a = s .args in
+    let e = symbols-out (a .samples .now) _ _ (s .pre .3) refl (c .before .before .before .before .before .before .symbols-of-sums .ensures) in
+    (ap length e ∙ symbols-length (a .samples .now), read-taken (kindOf (a .kind)) (right (a .kind)) (a .samples .now) _ e (a .place) (s .pre .1) (a .s) (c .before .before .before .read-at .ensures) (c .before .if1 .left))
 
 returns-2 : tie.Need-returns-2
 returns-2 c =

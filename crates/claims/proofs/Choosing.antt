@@ -55,11 +55,11 @@ module _ (kind : Kind) (s : Settings) (w : Window) (apart : Apart (kind .bytes))
   abbrev at : ℕ → Option Candidate
   at k = candidateAt kind s w (placeAt k)
 
-  held-at : (k : ℕ) (x : Candidate) → k < many → at k ≡ some x → Held kind s w (placeAt k) (x .slicer) (x .repairs)
+  held-at : (k : ℕ) (x : Candidate) → k < many → at k ≡ some x → Held kind s w (placeAt k) (x .location .slicer) (x .location .repairs)
   held-at k x l e = (searched-at k l, survives-held kind s w apart sized (placeAt k) x e .0)
 
   at-held : (q : Place) (y : Slicer) (σ : Repairs) → Holds kind s w q y σ → (n : Numbered placeAt many q)
-      → at (n .number) ≡ some (candidate w q (readingOf y σ))
+      → at (n .number) ≡ some (candidate w (readingOf q y σ))
   at-held q y σ h n = ap (candidateAt kind s w) (n .is) ∙ holds-survives kind s w apart sized q y σ h
 
   sooner-is : (q : Place) (n : Numbered placeAt many q) (i : ℕ) → Sooner q (placeAt i) → n .number < i
@@ -76,7 +76,7 @@ module _ (kind : Kind) (s : Settings) (w : Window) (apart : Apart (kind .bytes))
 
   -- ---- what a scan holds is chosen
 
-  chosen-at : (i : ℕ) (a : Candidate) → scanned.Chosen at many i a → Chosen kind s w (placeAt i) (a .slicer) (a .repairs)
+  chosen-at : (i : ℕ) (a : Candidate) → scanned.Chosen at many i a → Chosen kind s w (placeAt i) (a .location .slicer) (a .location .repairs)
   unfolding candidate
   chosen-at i a c =
       let f = survives-held kind s w apart sized (placeAt i) a (c .is) .1 in
@@ -84,33 +84,34 @@ module _ (kind : Kind) (s : Settings) (w : Window) (apart : Apart (kind .bytes))
         held = held-at i a (c .below) (c .is);
         fewest = λ q y σ h.
             let n = numbered q y σ h in
-            let k : count (a .repairs) ≤ count σ = c .fewest (n .number) (candidate w q (readingOf y σ)) (n .below) (at-held q y σ (h .1) n) in
+            let k : count (a .location .repairs) ≤ count σ = c .fewest (n .number) (candidate w (readingOf q y σ)) (n .below) (at-held q y σ (h .1) n) in
             omega arith;
         greatest = λ q y σ h.
             let n = numbered q y σ (h .0) in
             subst (λ (x : Float). lt x (cn0With w q y σ) ≢ true) (f .cn0)
-            (c .greatest (n .number) (candidate w q (readingOf y σ)) (n .below) (at-held q y σ (h .0 .1) n, h .1));
+            (c .greatest (n .number) (candidate w (readingOf q y σ)) (n .below) (at-held q y σ (h .0 .1) n, h .1));
         earliest = λ q y σ h l.
             let n = numbered q y σ (h .0) in
             subst (λ (x : Float). le x (cn0With w q y σ) ≢ true) (f .cn0)
-            (c .earliest (n .number) (candidate w q (readingOf y σ)) (sooner-is q n i l) (at-held q y σ (h .0 .1) n, h .1));
+            (c .earliest (n .number) (candidate w (readingOf q y σ)) (sooner-is q n i l) (at-held q y σ (h .0 .1) n, h .1));
         newcomer = λ z q y σ h l.
             let n = numbered q y σ (h .0) in
-            c .newcomer (ap isNan (f .cn0) ∙ z) (n .number) (candidate w q (readingOf y σ)) (sooner-is q n i l) (at-held q y σ (h .0 .1) n, h .1);
+            c .newcomer (ap isNan (f .cn0) ∙ z) (n .number) (candidate w (readingOf q y σ)) (sooner-is q n i l) (at-held q y σ (h .0 .1) n, h .1);
         holder = λ q y σ h z first.
             let n = numbered q y σ (h .0) in
             sym (n .is)
             ∙ ap placeAt
-            (c .holder (n .number) (candidate w q (readingOf y σ)) (n .below) (at-held q y σ (h .0 .1) n, h .1) z
-            (λ k x l r. first (placeAt k) (x .slicer) (x .repairs) (held-at k x (let b = n .below in omega arith) (r .0), r .1) (sooner-when k q n l)));
+            (c .holder (n .number) (candidate w (readingOf q y σ)) (n .below) (at-held q y σ (h .0 .1) n, h .1) z
+            (λ k x l r. first (placeAt k) (x .location .slicer) (x .location .repairs) (held-at k x (let b = n .below in omega arith) (r .0), r .1) (sooner-when k q n l)));
       }
 
-  found : (a : Candidate) → best kind s w ≡ some a → Chosen kind s w (a .place) (a .slicer) (a .repairs) × Filled w (a .place) a
+  found : (a : Candidate) → best kind s w ≡ some a
+      → Chosen kind s w (a .location .place) (a .location .slicer) (a .location .repairs) × Filled w (a .location .place) a
   unfolding best
   found a e =
       let (i, c) = scan-chosen (candidateAt kind s w) placeAt many a (sym (ap (scan (candidateAt kind s w) none) (places .order)) ∙ e) in
       let f = survives-held kind s w apart sized (placeAt i) a (c .is) .1 in (
-        subst (λ (p : Place). Chosen kind s w p (a .slicer) (a .repairs)) (sym (f .place)) (chosen-at i a c),
+        subst (λ (p : Place). Chosen kind s w p (a .location .slicer) (a .location .repairs)) (sym (f .place)) (chosen-at i a c),
         subst (λ (p : Place). Filled w p a) (sym (f .place)) f,
       )
 
@@ -170,18 +171,21 @@ module _ (kind : Kind) (s : Settings) (w : Window) (apart : Apart (kind .bytes))
     where
       go : NoneHeld kind s w → (p : Place) → p ∈ placesOf kind → (o : Option Candidate) → candidateAt kind s w p ≡ o → o ≡ none
       go h p i none e = refl
-      go h p i (some a) e = absurd (h p (a .slicer) (a .repairs) (i, survives-held kind s w apart sized p a e .0))
+      go h p i (some a) e = absurd (h p (a .location .slicer) (a .location .repairs) (i, survives-held kind s w apart sized p a e .0))
 
-  returned : (a : Candidate) → Chosen kind s w (a .place) (a .slicer) (a .repairs) → Filled w (a .place) a → best kind s w ≡ some a
+  returned : (a : Candidate) → Chosen kind s w (a .location .place) (a .location .slicer) (a .location .repairs)
+      → Filled w (a .location .place) a → best kind s w ≡ some a
   returned a c f = go (best kind s w) refl
     where
       go : (o : Option Candidate) → best kind s w ≡ o → o ≡ some a
-      go none e = absurd (nothing .0 e (a .place) (a .slicer) (a .repairs) (c .held))
+      go none e = absurd (nothing .0 e (a .location .place) (a .location .slicer) (a .location .repairs) (c .held))
       go (some b) e =
           let (d, g) = found b e in
-          let (i, j, k) = one-chosen (b .place) (a .place) (b .slicer) (a .slicer) (b .repairs) (a .repairs) d c in
-          let q : candidate w (b .place) (readingOf (b .slicer) (b .repairs)) ≡ candidate w (a .place) (readingOf (a .slicer) (a .repairs)) = rw (i, j, k) in
-          ap some (sym (filled-is kind s w apart sized (b .place) b g) ∙ q ∙ filled-is kind s w apart sized (a .place) a f)
+          let l = a .location in
+          let m = b .location in
+          let (i, j, k) = one-chosen (m .place) (l .place) (m .slicer) (l .slicer) (m .repairs) (l .repairs) d c in
+          let q : candidate w (readingOf (m .place) (m .slicer) (m .repairs)) ≡ candidate w (readingOf (l .place) (l .slicer) (l .repairs)) = rw (i, j, k) in
+          ap some (sym (filled-is kind s w apart sized (m .place) b g) ∙ q ∙ filled-is kind s w apart sized (l .place) a f)
 
   -- ---- the level
 

@@ -17,6 +17,7 @@ use Rattle.annex10.proofs.Repairing.{changed}
 use Rattle.math.specs.declared.Complex.{Complex}
 use Rattle.place.specs.declared.Place.{Place}
 use Rattle.place.specs.declared.Slicer.{Slicer}
+use Rattle.place.specs.declared.location.Location.{Location}
 use Rattle.place.proofs.Within.{listed-gives}
 use Rattle.kernels.specs.Slices.{greaterBy, undecided}
 use Rattle.search.specs.declared.Settings.{Settings}
@@ -32,7 +33,7 @@ use Rattle.claims.specs.Bits.{firstHalf, secondHalf, slicerBit, coinToss
 use Rattle.claims.specs.Fits.{Fits}
 use Rattle.claims.specs.Calls.{Accepted}
 use Rattle.claims.specs.Audited.{Received, Returned, Zeros, Answered, atLevel, Audited}
-use Rattle.claims.proofs.Fitting.{not-silent}
+use Rattle.claims.proofs.Fitting.{first-lowest, not-silent}
 use Rattle.claims.proofs.Uses.{Sound, places-of, sized, search-of, heard-of, sound-long, sound-short}
 use Rattle.claims.proofs.Calls.{wrong-length, wrong-level, wrong-thresholds, wrong-index, nothing, something, ends, numbered}
 use Rattle.claims.proofs.Timing.{timed}
@@ -70,63 +71,74 @@ heard-well slicer a b {m} = go (greaterBy slicer a b) (greaterBy slicer b a)
     go false true e z = inr (e, refl)
     go false false e z = absurd (omega arith)
 
+abbrev IsReturned : Kind → List Float → Settings → ℕ → Answer → Type 0
+IsReturned kind samples s index a = Returned kind samples s index a (a .location)
+
 -- the search found c
 module _ (kind : Kind) (sound : Sound kind) (samples : List Float) (s : Settings) (index : ℕ) (c : Candidate) (b : best kind s (seen kind samples) ≡ some c) where
-  made : c .message ≡ repaired (bitsAt (kind .bytes) samples (c .slicer) (c .place)) (c .repairs)
+  -- its location
+  abbrev here : Location
+  here = c .location
+
+  made : c .message ≡ repaired (bitsAt (kind .bytes) samples (here .slicer) (here .place)) (here .repairs)
   unfolding windowOf
   made = search-of kind sound samples s .returns c .0 b .1 .message
 
-  among : c .place ∈ placesOf kind
+  among : here .place ∈ placesOf kind
   among = search-of kind sound samples s .returns c .0 b .0 .held .0
 
-  fitting : Fits kind s (seen kind samples) (c .place) (c .slicer) (c .repairs)
+  fitting : Fits kind s (seen kind samples) (here .place) (here .slicer) (here .repairs)
   fitting = search-of kind sound samples s .returns c .0 b .0 .held .1 .first .fits
 
   -- its bits, by the bits that were looked at and by the samples
-  differs : (j : ℕ) → j < 8 * kind .bytes → (bitAt (c .message) j ≢ slicerBit samples (c .slicer) (c .place) j) ↔ Named j (c .repairs)
+  differs : (j : ℕ) → j < 8 * kind .bytes → (bitAt (c .message) j ≢ slicerBit samples (here .slicer) (here .place) j) ↔ Named j (here .repairs)
   unfolding windowOf
   differs j h =
-      let bits = bitsAt (kind .bytes) samples (c .slicer) (c .place) in
-      let size = sized kind samples .size (c .slicer) (c .place) in
-      let proper = subst (λ (n : ℕ). Proper n (c .repairs)) (sym size) (fitting .positions) in
-      rw (made, ← heard-of kind sound samples .heard (c .slicer) (c .place) (places-of kind .each (c .place) .0 among) j (omega arith))
-      (changed bits (c .repairs) proper j)
+      let bits = bitsAt (kind .bytes) samples (here .slicer) (here .place) in
+      let size = sized kind samples .size (here .slicer) (here .place) in
+      let proper = subst (λ (n : ℕ). Proper n (here .repairs)) (sym size) (fitting .positions) in
+      rw (made, ← heard-of kind sound samples .heard (here .slicer) (here .place) (places-of kind .each (here .place) .0 among) j (omega arith))
+      (changed bits (here .repairs) proper j)
 
   -- its coin tosses, by the marks that were counted and by the samples
-  tossed : c .undecided ≡ howMany (coinToss samples (c .slicer) (c .place)) (8 * kind .bytes)
+  tossed : c .undecided ≡ howMany (coinToss samples (here .slicer) (here .place)) (8 * kind .bytes)
   unfolding windowOf
   tossed =
       search-of kind sound samples s .returns c .0 b .1 .undecided
-      ∙ heard-of kind sound samples .counted (c .slicer) (c .place) (places-of kind .each (c .place) .0 among)
+      ∙ heard-of kind sound samples .counted (here .slicer) (here .place) (places-of kind .each (here .place) .0 among)
 
-  received : (j : ℕ) → j < 8 * kind .bytes → coinToss samples (c .slicer) (c .place) j ≡ 0 → ¬ Named j (c .repairs)
-      → Received samples (answerOf kind samples index c) j
-  unfolding answerOf slicerBit coinToss
+  received : (j : ℕ) → j < 8 * kind .bytes → coinToss samples (here .slicer) (here .place) j ≡ 0 → ¬ Named j (here .repairs)
+      → Received samples here (c .message) j
+  unfolding slicerBit coinToss
   received j h z n =
-      heard-well (c .slicer) (firstHalf samples (c .place) j) (secondHalf samples (c .place) j)
-      (like (bitAt (c .message) j) (slicerBit samples (c .slicer) (c .place) j) (λ u. n (differs j h .0 u))) z
+      heard-well (here .slicer) (firstHalf samples (here .place) j) (secondHalf samples (here .place) j)
+      (like (bitAt (c .message) j) (slicerBit samples (here .slicer) (here .place) j) (λ u. n (differs j h .0 u))) z
 
-  returned : Returned kind samples s index (answerOf kind samples index c)
+  returned : IsReturned kind samples s index (answerOf kind samples index c)
   unfolding answerOf windowOf
   returned =
       let q = search-of kind sound samples s in
       let (h, f) = q .returns c .0 b in
       record {
         chosen = h;
+        trial = f .trial;
+        none-before = λ y σ g.
+            let low = first-lowest kind s (seen kind samples) (sound .apart) (sized kind samples) (here .place) (here .slicer) (here .repairs) (h .held .1 .first) y σ g in
+            omega (arith, f .trial);
         message = made;
         cn0 = f .cn0;
         differs = differs;
         undecided = tossed;
-        none-tossed = λ z. howMany-none (coinToss samples (c .slicer) (c .place)) (8 * kind .bytes) (sym tossed ∙ z);
+        none-tossed = λ z. howMany-none (coinToss samples (here .slicer) (here .place)) (8 * kind .bytes) (sym tossed ∙ z);
         received = received;
-        only-repair = q .reads-first (c .place) .only (c .slicer) (c .repairs) fitting;
-        timed = timed kind samples index c (listed-gives (kind .last) (c .place) (places-of kind .each (c .place) .0 among) .from);
+        only-repair = q .reads-first (here .place) .only (here .slicer) (here .repairs) fitting;
+        timed = timed kind samples index c (listed-gives (kind .last) (here .place) (places-of kind .each (here .place) .0 among) .from);
       }
 
 -- ---- every answer
 
 no-message : (kind : Kind) (n : ℕ) → Zeros kind (refusedAnswer kind n)
-no-message kind n = record { place = refl; message = refl; repairs = refl; slicer = refl; cn0 = refl; index = refl; fraction = refl; undecided = refl }
+no-message kind n = record { place = refl; trial = refl; slicer = refl; repairs = refl; message = refl; cn0 = refl; index = refl; fraction = refl; undecided = refl }
 
 module _ (kind : Kind) (sound : Sound kind) (samples : List Float) (s : Settings) (index : ℕ) where
   abbrev it : Answer
@@ -134,7 +146,7 @@ module _ (kind : Kind) (sound : Sound kind) (samples : List Float) (s : Settings
 
   -- what is said beside the number
   record Beside : Type 0 where
-    returned-is : it .number ≡ 0 → Returned kind samples s index it
+    returned-is : it .number ≡ 0 → IsReturned kind samples s index it
     zeros : it .number ≢ 0 → Zeros kind it
 
   refused : (n : ℕ) → 0 < n → it ≡ refusedAnswer kind n → Beside
@@ -147,7 +159,7 @@ module _ (kind : Kind) (sound : Sound kind) (samples : List Float) (s : Settings
   found c b e =
       let k : it .number ≡ 0 = ap (λ (x : Answer). x .number) e in
       record {
-        returned-is = λ z. subst (Returned kind samples s index) (sym e) (returned kind sound samples s index c b);
+        returned-is = λ z. subst (IsReturned kind samples s index) (sym e) (returned kind sound samples s index c b);
         zeros = λ z. absurd (z k);
       }
 
@@ -162,7 +174,7 @@ module _ (kind : Kind) (sound : Sound kind) (samples : List Float) (s : Settings
   ]
 
   speaks : Accepted samples s index → (p : Place) → p ∈ placesOf kind → (z : Slicer) (ρ : Repairs) → Fits kind s (seen kind samples) p z ρ → count ρ ≤ 1
-      → (it .number ≡ 0) × (count (it .repairs) ≤ count ρ)
+      → (it .number ≡ 0) × (count (it .location .repairs) ≤ count ρ)
   speaks a p m z ρ f o =
       let (y, σ, h, l) = not-silent kind s (seen kind samples) (sound .apart) (sized kind samples) p z ρ f o in
       let n : it .number ≡ 0 = numbered kind sound samples s index .zero .1 (a, (p, y, σ, (m, h))) in

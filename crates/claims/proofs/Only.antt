@@ -10,6 +10,7 @@ use native.Mathlib.Decide.{ℕ-discrete}
 use lib.IntN.{pos}
 use lib.Ieee.{Float, ofBits, eq, isNan}
 use Rattle.floats.specs.Numbers.{zeroF}
+use Rattle.place.specs.declared.location.Location.{Location}
 use Rattle.timing.specs.Exact.{LessBy}
 use Rattle.timing.proofs.Valued.{less-same}
 use Rattle.search.specs.declared.Settings.{Settings}
@@ -25,6 +26,12 @@ zero-is : eq zeroF zeroF ≡ true
 unfolding eq ofBits
 zero-is = refl
 
+one-location : {l m : Location} → l .place ≡ m .place → l .trial ≡ m .trial → l .slicer ≡ m .slicer → l .repairs ≡ m .repairs → l ≡ m
+one-location {l} {m} p t z r =
+    let of : Location → Location = λ x. record { place = x .place; trial = x .trial; slicer = x .slicer; repairs = x .repairs } in
+    let e : of l ≡ of m = cc in
+    e
+
 module _ (kind : Kind) (sound : Sound kind) (samples : List Float) (s : Settings) (index : ℕ) where
   one-number : (n m : ℕ) → Numbered kind samples s index n → Numbered kind samples s index m → n ≡ m
   one-number zero m p q = sym (q .zero .1 (p .zero .0 refl))
@@ -38,12 +45,12 @@ module _ (kind : Kind) (sound : Sound kind) (samples : List Float) (s : Settings
 
   module _ (a b : Answer) where
     -- the fraction before any sample moves is the same, and so is what the moves leave of it
-    one-fraction : a .place ≡ b .place → a .message ≡ b .message → WellTimed kind samples index a → WellTimed kind samples index b
+    one-fraction : a .location ≡ b .location → a .message ≡ b .message → WellTimed kind samples index a → WellTimed kind samples index b
         → (eq (a .fraction) (b .fraction) ≡ true) ⊎ ((isNan (a .fraction) ≡ true) × (isNan (b .fraction) ≡ true))
-    one-fraction p m x y = go (isNan (fractionFor kind samples a)) refl
+    one-fraction l m x y = go (isNan (fractionFor kind samples a)) refl
       where
         same : fractionFor kind samples b ≡ fractionFor kind samples a
-        same = rw (p, m)
+        same = rw (l, m)
 
         go : (n : Bool) → isNan (fractionFor kind samples a) ≡ n
             → (eq (a .fraction) (b .fraction) ≡ true) ⊎ ((isNan (a .fraction) ≡ true) × (isNan (b .fraction) ≡ true))
@@ -53,21 +60,26 @@ module _ (kind : Kind) (sound : Sound kind) (samples : List Float) (s : Settings
             subst (λ (f : Float). LessBy (movesFor f) f (b .fraction)) same (y .lost (ap isNan same ∙ e)) in
             inl (less-same (movesFor (fractionFor kind samples a)) (fractionFor kind samples a) (a .fraction) (b .fraction) (x .lost e) l)
 
-    one-message : a .number ≡ b .number → Returned kind samples s index a → Returned kind samples s index b → Same a b
+    one-message : a .number ≡ b .number → Returned kind samples s index a (a .location) → Returned kind samples s index b (b .location) → Same a b
     unfolding windowOf
     one-message n x y =
-        let (p, z, r) = search-of kind sound samples s .one-chosen (a .place) (b .place) (a .slicer) (b .slicer) (a .repairs) (b .repairs) (x .chosen) (y .chosen) in
+        let l = a .location in
+        let k = b .location in
+        let (p, z, r) = search-of kind sound samples s .one-chosen (l .place) (k .place) (l .slicer) (k .slicer) (l .repairs) (k .repairs) (x .chosen) (y .chosen) in
+        let t : l .trial ≡ k .trial = x .trial ∙ rw (z, r) (sym (y .trial)) in
+        let e : l ≡ k = one-location p t z r in
         let m : a .message ≡ b .message = x .message ∙ rw (p, z, r) (sym (y .message)) in
-        let i : pos (a .index) ≡ pos (b .index) = x .timed .gained ∙ rw (p, m) (sym (y .timed .gained)) in
+        let i : pos (a .index) ≡ pos (b .index) = x .timed .gained ∙ rw (e, m) (sym (y .timed .gained)) in
         record {
           number = n;
           place = p;
+          trial = t;
           slicer = z;
           repairs = r;
           message = m;
           cn0 = x .cn0 ∙ rw (p, z, r) (sym (y .cn0));
           index = cc;
-          fraction = one-fraction p m (x .timed) (y .timed);
+          fraction = one-fraction e m (x .timed) (y .timed);
           undecided = x .undecided ∙ rw (p, z) (sym (y .undecided));
         }
 
@@ -76,6 +88,7 @@ module _ (kind : Kind) (sound : Sound kind) (samples : List Float) (s : Settings
         record {
           number = n;
           place = x .place ∙ sym (y .place);
+          trial = x .trial ∙ sym (y .trial);
           slicer = x .slicer ∙ sym (y .slicer);
           repairs = x .repairs ∙ sym (y .repairs);
           message = x .message ∙ sym (y .message);

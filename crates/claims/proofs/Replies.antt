@@ -24,10 +24,10 @@ use Rattle.annex10.proofs.Singles.{singlesFrom, singles}
 use Rattle.place.specs.declared.Place.{Place}
 use Rattle.place.specs.declared.Slicer.{Slicer}
 use Rattle.place.specs.declared.Slicer.the-variants.{Coherent, Noncoherent}
+use Rattle.place.specs.Agrees.{side}
 use Rattle.search.specs.declared.Settings.{Settings}
 use Rattle.search.specs.Kinds.{good, short}
 use Rattle.search.specs.Window.{Window}
-use Rattle.search.specs.Trials.{side}
 use Rattle.claims.specs.Fits.{Fits}
 use Rattle.claims.specs.Replies.{Squitter, coded, OneBit, Replies}
 

@@ -24,9 +24,9 @@ use Rattle.claims.specs.Stays.{unmarkedDecode, uncounted, uncountedReadi
 
 place : (kind : Kind) (s : Settings) (w : Window) (p : Place) → uncountedIf (candidateAt kind s w p) ≡ candidateAt kind s (unmarked w) p
 unfolding candidate
-place kind s w p = go (unmarked-alike w p kind s)
+place kind s w p = go (unmarked-alike w kind s p)
   where
-    go : Alike w p (candidateAt kind s (unmarked w) p) (candidateAt kind s w p) → uncountedIf (candidateAt kind s w p) ≡ candidateAt kind s (unmarked w) p
+    go : Alike w (candidateAt kind s (unmarked w) p) (candidateAt kind s w p) → uncountedIf (candidateAt kind s w p) ≡ candidateAt kind s (unmarked w) p
     go (inl (e, f)) = rw (e, f)
     go (inr (r, e, f)) = rw (e, f)
 

@@ -39,13 +39,15 @@ moved-index given start (negsuc n) h = sym (sub-ge (given - 128 + start) (suc n)
 by-hand : (given : ℕ) (p : Place) → given - 128 + sampleStart p ≡ given - 128 + 4 * (2 * p .bit + p .symbol) + p .phase
 by-hand given p = omega arith
 
-pub timed : (kind : Kind) (samples : List Float) (index : ℕ) (c : Candidate) → 1 ≤ c .place .bit → WellTimed kind samples index (answerOf kind samples index c)
+pub timed : (kind : Kind) (samples : List Float) (index : ℕ) (c : Candidate) → 1 ≤ c .location .place .bit
+    → WellTimed kind samples index (answerOf kind samples index c)
 unfolding answerOf timingAt timingOf
 timed kind samples index c h =
     let w = seen kind samples in
-    let start = sampleStart (c .place) in
-    let f = fractionAt w (c .message) start in
-    let p = promptOf w (c .message) start in
+    let place = c .location .place in
+    let start = sampleStart place in
+    let f = fractionAt w (c .message) (c .location) in
+    let p = promptOf w (c .message) (c .location) in
     let t = fraction-fits (about w (c .message) p) (p .offset) in
     let r = reaches (about w (c .message) p) (p .offset) in
     let two = at-most-two f in
@@ -53,8 +55,8 @@ timed kind samples index c h =
     record {
       gained =
           moved-index index start (gained f) (omega arith)
-          ∙ ap (λ (i : ℕ). pos i +ℤ gained f) (by-hand index (c .place))
-          ∙ ap (λ (k : ℤ). pos (index - 128 + 4 * (2 * c .place .bit + c .place .symbol) + c .place .phase) +ℤ k) m;
+          ∙ ap (λ (i : ℕ). pos i +ℤ gained f) (by-hand index place)
+          ∙ ap (λ (k : ℤ). pos (index - 128 + 4 * (2 * place .bit + place .symbol) + place .phase) +ℤ k) m;
       lost = λ e. subst (λ (k : ℤ). LessBy k f (afterMoves f)) m (moves-exact f t r e);
       within = ends-in-range f t r;
       nan-stays = λ e. let n = nan-is f e in ap isNan (ap afterMoves n ∙ nan-stays .0 ∙ sym n) ∙ e;

@@ -31,10 +31,8 @@ abbrev pub uncounted : Answer → Answer
 uncounted a =
     record {
       number = a .number;
-      place = a .place;
+      location = a .location;
       message = a .message;
-      repairs = a .repairs;
-      slicer = a .slicer;
       cn0 = a .cn0;
       index = a .index;
       fraction = a .fraction;
@@ -44,10 +42,7 @@ uncounted a =
 abbrev pub uncountedReading : Candidate → Candidate
 uncountedReading c =
     record {
-      place = c .place;
-      trial = c .trial;
-      slicer = c .slicer;
-      repairs = c .repairs;
+      location = c .location;
       message = c .message;
       prompt = c .prompt;
       cn0 = c .cn0;

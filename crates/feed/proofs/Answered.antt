@@ -1,4 +1,4 @@
--- Of a window is said what its decodes answer: what the checks let pass they do not refuse.
+-- Of a window is said what its decodes answer: what the checks let pass they do not refuse, and no message of theirs is refused as a line.
 -- Assumes nothing.
 use mathlib.Core.Path.{_≡_, refl}
 use mathlib.Core.Bool.{Bool, true, false, cond}
@@ -21,6 +21,7 @@ use Rattle.search.specs.Kinds.{Kind}
 use Rattle.search.specs.Seen.{seen}
 use Rattle.search.specs.Answers.{windowNumber, settingsNumber, indexNumber, answered as found, answerOf, decodeOf}
 use Rattle.words.specs.Words.{littleEndian, floatAt}
+use Rattle.listing.proofs.Determines.{line-determines}
 use Rattle.feed.specs.Parts.{Stop, end, failure, Line, refusal, nextBytes, nextNumber, need}
 use Rattle.feed.specs.Lines.{ending, windowLines, samplesLines, indicesLines, linesOf}
 use Rattle.feed.specs.Statement.{NotRefused, Every}
@@ -79,7 +80,10 @@ module _ (stop : Stop) (s : Settings) (good : settingsNumber s ≡ 0) where
   unfolding windowLines
   all-windows k [] input t = all-end stop input
   all-windows k (index ∷ indices) input t =
-      all-bytes 9240 input _ (λ part rest e. ((e, not-refused part s index good (t .0)), all-windows (suc k) indices rest (t .1)))
+      all-bytes 9240 input _
+      (λ part rest e.
+      let samples = tabulate 2310 (floatAt part) in
+      ((e, not-refused part s index good (t .0), λ kind. line-determines .own kind samples s index), all-windows (suc k) indices rest (t .1)))
 
   all-samples : (indices input : List ℕ) → Taken indices → All (samplesLines stop s indices input)
   unfolding samplesLines

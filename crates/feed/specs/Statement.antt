@@ -6,9 +6,12 @@ use mathlib.Core.Logic.{_≢_, _⊎_}
 use Prim.Native.Nat.{ℕ, _+_, _-_, _≤_, _<_}
 use lib.ListN.{length}
 use Rattle.lists.specs.From.{tabulate}
+use Rattle.search.specs.declared.Answer.{Answer}
 use Rattle.search.specs.Kinds.{Kind}
 use Rattle.search.specs.Answers.{decodeOf}
 use Rattle.words.specs.Words.{floatAt}
+use Rattle.listing.specs.Lines.{saidNumber}
+use Rattle.listing.specs.Determines.{Either}
 use Rattle.feed.specs.declared.Field.{Field}
 use Rattle.feed.specs.declared.Field.the-variants.{
   SettingsCount,
@@ -53,10 +56,15 @@ leftOf s = leftAt (s .stage) (s .done)
 abbrev pub OrRefused : List Line → List Line → Type 0
 OrRefused a b = (a ≡ b) ⊎ (a ≡ b ++ (refusal 10 ∷ []))
 
--- the samples of a window are 9,240 bytes, and a decode of them, of either kind, finds a message or none: it refuses nothing
+-- the samples of a window are 9,240 bytes, and a decode of them, of either kind, finds a message or none: it refuses nothing, and is said
+-- by its own number
 abbrev pub NotRefused : Line → Type 0
 NotRefused (head n) = Unit {0}
-NotRefused (window k s index part) = (length part ≡ 9240) × ((kind : Kind) → decodeOf kind (tabulate 2310 (floatAt part)) s index .number ≤ 1)
+NotRefused (window k s index part) =
+    let decode : Kind → Answer = λ kind. decodeOf kind (tabulate 2310 (floatAt part)) s index in
+    (length part ≡ 9240)
+    × ((kind : Kind) → decode kind .number ≤ 1)
+    × ((kind : Kind) → Either kind → saidNumber (kind .bytes) (decode kind) ≡ decode kind .number)
 NotRefused (refusal n) = Unit {0}
 
 abbrev pub Every : (Line → Type 0) → List Line → Type 0

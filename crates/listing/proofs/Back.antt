@@ -17,7 +17,7 @@ use Rattle.place.specs.declared.Slicer.{Slicer}
 use Rattle.place.specs.declared.Slicer.the-variants.{Coherent, Noncoherent}
 use Rattle.mode_s.specs.Avr.{hexDigit, hexText, avrText}
 use Rattle.listing.specs.Fields.{decimalIn, decimal, hexWord, floatText, repairsText, slicerText}
-use Rattle.listing.specs.Determines.{InBytes}
+use Rattle.listing.proofs.Lengths.{InBytes}
 use Rattle.listing.proofs.Split.{spaced-same}
 use Rattle.listing.proofs.Visible.{digits-above}
 

@@ -1,7 +1,10 @@
--- Every answer of a decode is stored, has as many bytes as its kind, and is a message, none or a refusal of 2 to 6: whatever the samples,
--- the settings and the index are.
+-- Laws of what a decode answers, whatever the samples, the settings and the index are.
+--     decode-kept     it is stored and has as many bytes as its kind
+--     decode-taken    of a message the location is taken: locationNumber (kind .bytes) (decodeOf kind samples s index .location) ≡ 0
+--     decode-own      it is said by its own number
+--     decodes-said    of both kinds: a message, none or one refusal
 -- Assumes nothing.
-use mathlib.Core.Path.{_≡_, refl, _∙_, subst}
+use mathlib.Core.Path.{_≡_, refl, sym, _∙_, subst}
 use mathlib.Core.Bool.{Bool, true, false, cond, _&&_}
 use mathlib.Core.List.{List, [], _∷_}
 use mathlib.Core.Logic.{_≢_, _⊎_, inl, inr}
@@ -24,13 +27,15 @@ use Rattle.lists.specs.From.{tabulate}
 use Rattle.lists.proofs.Table.{length-tabulate, getD-tabulate}
 use Rattle.lists.proofs.Bits.{bitAt-lt, value-lt, howMany-le}
 use Rattle.annex10.specs.Flip.{flip}
-use Rattle.annex10.specs.Repair.{Proper, repaired}
+use Rattle.annex10.specs.Repair.{repaired}
 use Rattle.annex10.proofs.Repairing.{length-repaired}
 use Rattle.annex10.specs.declared.Repairs.{Repairs}
 use Rattle.annex10.specs.declared.Repairs.the-variants.{None, One, Two}
 use Rattle.place.specs.declared.Place.{Place}
 use Rattle.place.specs.declared.Slicer.{Slicer}
-use Rattle.place.specs.Step.{sampleStart}
+use Rattle.place.specs.declared.location.Location.{Location}
+use Rattle.place.specs.Step.{sampleStart, lastSymbol}
+use Rattle.place.specs.Agrees.{locationNumber}
 use Rattle.place.proofs.Within.{Listed, listed-gives}
 use Rattle.place.proofs.All.{member-listed}
 use Rattle.cn0.specs.Logarithm.{tenLog10}
@@ -44,7 +49,6 @@ use Rattle.timing.proofs.Laws.{few-moves}
 use Rattle.search.specs.declared.Settings.{Settings}
 use Rattle.search.specs.declared.Candidate.{Candidate}
 use Rattle.search.specs.declared.Answer.{Answer}
-use Rattle.search.specs.declared.Reading.{Reading}
 use Rattle.search.specs.Window.{Window, _∈_}
 use Rattle.search.specs.Choice.{candidate, candidateAt, best}
 use Rattle.search.specs.Kinds.{Kind, long, short, placesOf}
@@ -53,7 +57,10 @@ use Rattle.search.specs.When.{timingAt, moved, indexOf}
 use Rattle.search.specs.Answers.{orNumber, windowNumber, settingsNumber, indexNumber, refusedAnswer, answerOf, answered, decodeOf}
 use Rattle.search.proofs.Passing.{sound}
 use Rattle.search.proofs.Scanning.{not-some, scan-from, survivor-is}
-use Rattle.listing.specs.Determines.{InBytes, Stored, Either}
+use Rattle.search.proofs.Locating.{Makes, made-long, made-short, sited-taken, best-sited}
+use Rattle.listing.specs.Lines.{saidNumber}
+use Rattle.listing.specs.Determines.{Stored, Either}
+use Rattle.listing.proofs.Numbered.{or-zero, said-own}
 
 -- ---- messages
 
@@ -88,11 +95,6 @@ repaired-bytes m None h = h
 repaired-bytes m (One j) h = flip-bytes m j h
 repaired-bytes m (Two j k) h = flip-bytes (flip m j) k (flip-bytes m j h)
 
-in-bytes : (n : ℕ) (ρ : Repairs) → n ≤ 32 → Proper n ρ → InBytes ρ
-in-bytes n None h p = tt
-in-bytes n (One j) h p = omega arith
-in-bytes n (Two j k) h p = (omega arith, omega arith)
-
 -- ---- floats
 
 log-fits : (x : Float) → T (fits binary32 (tenLog10 x))
@@ -123,7 +125,7 @@ moved-few : (m : Moves) (i : ℕ) → movesCount m ≤ 2 → moved m i ≤ i + 2
 moved-few (On n) i h = omega arith
 moved-few (Back n) i h = omega arith
 
-index-stored : (given start : ℕ) (f : Float) → given ≤ 2 ^ 63 → start ≤ 1000 → indexOf given start (timingOf f .moves) < 2 ^ 64
+index-stored : (given start : ℕ) (f : Float) → given ≤ 2 ^ 63 → start ≤ 2000 → indexOf given start (timingOf f .moves) < 2 ^ 64
 unfolding indexOf
 index-stored given start f h k = omega (arith, moved-few (timingOf f .moves) (given - 128 + start) (few-moves f))
 
@@ -145,13 +147,6 @@ Number n = (n ≤ 6) × (n ≢ 1)
 either : (b : Bool) (x y : ℕ) → Number x → Number y → Number (cond b x y)
 either true x y h k = h
 either false x y h k = k
-
-or-zero : (n m : ℕ) → orNumber n m ≡ 0 → m ≡ 0
-or-zero n m = go (eqb n 0) refl
-  where
-    go : (b : Bool) → eqb n 0 ≡ b → cond b m n ≡ 0 → m ≡ 0
-    go true e q = q
-    go false e q = absurd (eqb-false n 0 e q)
 
 abbrev refusalOf : List Float → Settings → ℕ → ℕ
 refusalOf samples s index = orNumber (windowNumber samples) (orNumber (settingsNumber s) (indexNumber index))
@@ -177,22 +172,26 @@ index-right index = go (leb 128 index) (leb index (2 ^ 63)) refl
 
 -- ---- the answer
 
--- positions are bytes, and the samples that messages start with few
-pub record Small (kind : Kind) : Type 0 where
-  bytes : kind .bytes ≤ 32
-  last : kind .last ≤ 100
+-- a message at the last place that is searched ends within the window, and no trial is made behind the last one for its length
+pub record Room (kind : Kind) : Type 0 where
+  last : 2 * kind .last + 1 ≤ lastSymbol (kind .bytes)
+  made : Makes kind
 
-pub small-kind : (kind : Kind) → Either kind → Small kind
+pub room-of : (kind : Kind) → Either kind → Room kind
 unfolding long short
-small-kind kind (inl e) = rw e (record { bytes = omega arith; last = omega arith })
-small-kind kind (inr e) = rw e (record { bytes = omega arith; last = omega arith })
+room-of kind (inl e) = rw e (record { last = omega arith; made = made-long })
+room-of kind (inr e) = rw e (record { last = omega arith; made = made-short })
+
+-- so it is short
+pub few-bytes : (kind : Kind) → Room kind → kind .bytes ≤ 32
+few-bytes kind room = omega (arith, room .last)
 
 -- what holds of an answer of a decode
 pub record Kept (kind : Kind) (a : Answer) : Type 0 where
   pub stored : Stored a
   pub size : length (a .message) ≡ kind .bytes
 
-module _ (kind : Kind) (small : Small kind) where
+module _ (kind : Kind) (room : Room kind) where
   refused-kept : (n : ℕ) → n < 2 ^ 32 → Kept kind (refusedAnswer kind n)
   refused-kept n h =
       record {
@@ -200,7 +199,6 @@ module _ (kind : Kind) (small : Small kind) where
             record {
               number = h;
               message = zeros (kind .bytes);
-              repairs = tt;
               cn0 = ofBits-fits binary32 0;
               index = omega arith;
               fraction = ofBits-fits binary32 0;
@@ -215,26 +213,26 @@ module _ (kind : Kind) (small : Small kind) where
       zeros (suc m) (suc k) = zeros m k
 
   -- a reading at a place that is searched
-  reading-kept : (samples : List Float) (index : ℕ) (p : Place) (r : Reading) → index ≤ 2 ^ 63 → Listed (kind .last) p
-      → Proper (kind .bytes) (r .repairs) → Kept kind (answerOf kind samples index (candidate (seen kind samples) p r))
+  reading-kept : (samples : List Float) (index : ℕ) (r : Location) → index ≤ 2 ^ 63 → Listed (kind .last) (r .place)
+      → Kept kind (answerOf kind samples index (candidate (seen kind samples) r))
   unfolding answerOf candidate windowOf bitsAt timingAt
-  reading-kept samples index p r h l q =
+  reading-kept samples index r h l =
+      let p = r .place in
       let bits = messageAt (stream samples (r .slicer) p) (kind .bytes) (p .bit) in
       record {
         stored =
             record {
               number = omega arith;
               message = repaired-bytes bits (r .repairs) (message-bytes (stream samples (r .slicer) p) (kind .bytes) (p .bit));
-              repairs = in-bytes (kind .bytes) (r .repairs) (small .bytes) q;
               cn0 = cn0-fits _ _;
-              index = index-stored index (sampleStart p) _ h (omega (arith, small .last));
+              index = index-stored index (sampleStart p) _ h (omega (arith, room .last));
               fraction = timing-fits _ _;
-              undecided = omega (arith, undecided-few (kind .bytes) samples (r .slicer) p, small .bytes);
+              undecided = omega (arith, undecided-few (kind .bytes) samples (r .slicer) p, few-bytes kind room);
             };
         size = length-repaired bits (r .repairs) ∙ message-length (stream samples (r .slicer) p) (kind .bytes) (p .bit);
       }
 
-module _ (kind : Kind) (small : Small kind) (samples : List Float) (s : Settings) (index : ℕ) where
+module _ (kind : Kind) (room : Room kind) (samples : List Float) (s : Settings) (index : ℕ) where
   found-kept : (c : Candidate) → index ≤ 2 ^ 63 → best kind s (seen kind samples) ≡ some c → Kept kind (answerOf kind samples index c)
   unfolding best candidateAt
   found-kept c h e = go (scan-from (candidateAt kind s w) (placesOf kind) none e)
@@ -245,10 +243,10 @@ module _ (kind : Kind) (small : Small kind) (samples : List Float) (s : Settings
       go : (none ≡ some c) ⊎ ((p : Place) × (p ∈ placesOf kind) × (candidateAt kind s w p ≡ some c)) → Kept kind (answerOf kind samples index c)
       go (inl x) = not-some x
       go (inr (p, m, q)) =
-          let v = survivor-is s w p _ q in
+          let v = survivor-is s w _ q in
+          let at : v .of .place ≡ p = sound kind _ p _ _ .so (v .of) (v .read) .place in
           subst (λ (x : Candidate). Kept kind (answerOf kind samples index x)) (v .is)
-          (reading-kept kind small samples index p (v .of) h (listed-gives (kind .last) p (member-listed (kind .last) p m))
-          (sound kind _ _ _ .so (v .of) (v .read) .proper))
+          (reading-kept kind room samples index (v .of) h (subst (Listed (kind .last)) (sym at) (listed-gives (kind .last) p (member-listed (kind .last) p m))))
 
   pub decode-kept : Kept kind (decodeOf kind samples s index)
   unfolding decodeOf
@@ -256,10 +254,32 @@ module _ (kind : Kind) (small : Small kind) (samples : List Float) (s : Settings
     where
       go : (b : Bool) → eqb (refusalOf samples s index) 0 ≡ b → (o : Option Candidate) → best kind s (seen kind samples) ≡ o
           → Kept kind (cond b (answered kind samples index o) (refusedAnswer kind (refusalOf samples s index)))
-      go false e o q = refused-kept kind small _ (omega (arith, refusal samples s index .0))
-      go true e none q = refused-kept kind small 1 (omega arith)
+      go false e o q = refused-kept kind room _ (omega (arith, refusal samples s index .0))
+      go true e none q = refused-kept kind room 1 (omega arith)
       go true e (some c) q =
           found-kept c (index-right index (or-zero (settingsNumber s) _ (or-zero (windowNumber samples) _ (eqb-true _ 0 e)))) q
+
+  best-taken : (c : Candidate) → best kind s (seen kind samples) ≡ some c → locationNumber (kind .bytes) (c .location) ≡ 0
+  best-taken c e =
+      let (p, m, t) = best-sited kind (room .made) s (seen kind samples) e in
+      let l = listed-gives (kind .last) p m in
+      sited-taken kind p (c .location) t (record { phase = l .phase; symbol = l .symbol; start = omega (arith, l .to, l .symbol, room .last) })
+
+  pub decode-taken : decodeOf kind samples s index .number ≡ 0 → locationNumber (kind .bytes) (decodeOf kind samples s index .location) ≡ 0
+  unfolding decodeOf answerOf
+  decode-taken = go (eqb (refusalOf samples s index) 0) refl (best kind s (seen kind samples)) refl
+    where
+      it : Bool → Option Candidate → Answer
+      it b o = cond b (answered kind samples index o) (refusedAnswer kind (refusalOf samples s index))
+
+      go : (b : Bool) → eqb (refusalOf samples s index) 0 ≡ b → (o : Option Candidate) → best kind s (seen kind samples) ≡ o
+          → it b o .number ≡ 0 → locationNumber (kind .bytes) (it b o .location) ≡ 0
+      go false e o q z = absurd (eqb-false _ 0 e z)
+      go true e none q z = absurd (omega arith)
+      go true e (some c) q z = best-taken c q
+
+  pub decode-own : saidNumber (kind .bytes) (decodeOf kind samples s index) ≡ decodeOf kind samples s index .number
+  decode-own = said-own (kind .bytes) (decodeOf kind samples s index) decode-taken
 
 -- ---- the two answers of a window
 
@@ -269,11 +289,11 @@ unsaid zero = 1
 unsaid (suc zero) = 1
 unsaid (suc (suc n)) = suc (suc n)
 
--- the long answer alone is said, or the short one alone, or both
-abbrev pub Said : Answer → Answer → Type 0
-Said a b = (b .number ≡ unsaid (a .number)) ⊎ (((a .number ≡ 1) × (b .number ≡ 0)) ⊎ ((a .number ≡ 0) × (b .number ≡ 0)))
+-- of a long answer with the number m and a short one with n: the long one alone is said, or the short one alone, or both
+abbrev pub Said : ℕ → ℕ → Type 0
+Said m n = (n ≡ unsaid m) ⊎ (((m ≡ 1) × (n ≡ 0)) ⊎ ((m ≡ 0) × (n ≡ 0)))
 
-pub decodes-said : (samples : List Float) (s : Settings) (index : ℕ) → Said (decodeOf long samples s index) (decodeOf short samples s index)
+pub decodes-said : (samples : List Float) (s : Settings) (index : ℕ) → Said (decodeOf long samples s index .number) (decodeOf short samples s index .number)
 unfolding decodeOf answerOf
 decodes-said samples s index =
     go (eqb (refusalOf samples s index) 0) refl (best long s (seen long samples)) (best short s (seen short samples))
@@ -284,7 +304,7 @@ decodes-said samples s index =
     above (suc (suc n)) p q = refl
 
     go : (b : Bool) → eqb (refusalOf samples s index) 0 ≡ b → (o i : Option Candidate)
-        → Said (cond b (answered long samples index o) (refusedAnswer long (refusalOf samples s index))) (cond b (answered short samples index i) (refusedAnswer short (refusalOf samples s index)))
+        → Said (cond b (answered long samples index o) (refusedAnswer long (refusalOf samples s index)) .number) (cond b (answered short samples index i) (refusedAnswer short (refusalOf samples s index)) .number)
     go false e o i = inl (above _ (eqb-false _ 0 e) (refusal samples s index .1))
     go true e none none = inl refl
     go true e (some c) none = inl refl

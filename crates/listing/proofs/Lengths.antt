@@ -21,7 +21,12 @@ use Rattle.mode_s.proofs.Text.{length-avr}
 use Rattle.search.specs.declared.Answer.{Answer}
 use Rattle.listing.specs.Fields.{decimalIn, decimal, hexWord, floatText, addressDigits, marked, addressText, repairsText, slicerText}
 use Rattle.listing.specs.Lines.{line, headLine, refusedLine, noneLine, foundLine}
-use Rattle.listing.specs.Determines.{InBytes}
+
+-- each position is a byte
+abbrev pub InBytes : Repairs → Type 0
+InBytes None = Unit
+InBytes (One j) = j < 256
+InBytes (Two j k) = (j < 256) × (k < 256)
 
 decimal-in : (places n : ℕ) → length (decimalIn places n) ≤ places
 unfolding decimalIn
@@ -96,11 +101,12 @@ pub none-short : (n : ℕ) → length (noneLine n) ≤ 256
 unfolding noneLine line
 none-short n = simp length-append (omega (arith, decimal-short n))
 
--- window and index have 20 digits at most, each float 8, an address 7, positions 6, the undecided bits 10; of a message each byte has two
-pub found-short : (window : ℕ) (a : Answer) → length (repairsText (a .repairs)) ≤ 9 → a .undecided < 2 ^ 32
-    → length (foundLine window a) ≤ 2 * length (a .message) + 94
+-- window and index have 20 digits at most, each float 8, an address 7, positions 6, the undecided bits 10, a trial 3; of a message each byte
+-- has two
+pub found-short : (window : ℕ) (a : Answer) → length (repairsText (a .location .repairs)) ≤ 9 → a .undecided < 2 ^ 32 → a .location .trial < 256
+    → length (foundLine window a) ≤ 2 * length (a .message) + 98
 unfolding foundLine line
-found-short window a h w =
+found-short window a h w t =
     simp length-append
     (omega (
       arith,
@@ -109,9 +115,10 @@ found-short window a h w =
       float-long (a .fraction),
       length-avr (a .message),
       address-short (a .message),
-      slicer-long (a .slicer),
+      slicer-long (a .location .slicer),
       float-long (a .cn0),
       decimal-word (a .undecided) w,
+      decimal-byte (a .location .trial) t,
     ))
 
 -- the line of a message is longer than `none`

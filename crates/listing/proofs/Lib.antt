@@ -1,6 +1,7 @@
 pub mod Puts
 pub mod Digits
 pub mod Lengths
+pub mod Numbered
 pub mod Windows
 pub mod Worked
 pub mod Letters

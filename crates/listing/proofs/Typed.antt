@@ -11,15 +11,12 @@ use denote.Laws.{Is}
 use denote.Shadow.{shadow}
 use denote.Array.{each}
 use denote.Builtin.{u8}
-use Rattle.annex10.specs.declared.Repairs.{Repairs}
-use Rattle.annex10.specs.declared.Repairs.the-variants.{None, One, Two}
-use Rattle.annex10.proofs.Repairs as repairs
 use Rattle.search.specs.declared.Answer.{Answer}
 use Rattle.search.specs.declared.ShortAnswer.{ShortAnswer}
 use Rattle.search.specs.Short.{ofShort}
 use Rattle.search.proofs.Answer as answer
 use Rattle.search.proofs.ShortAnswer as short-answer
-use Rattle.listing.specs.Determines.{InBytes, Stored}
+use Rattle.listing.specs.Determines.{Stored}
 
 bytes : (xs : List ℕ) (us : List Val) → shadow (each ℕ (u8 .own) (map (λ (v : ℕ). v) xs) us) → (k : ℕ) → getD xs k 0 < 256
 bytes [] us s k = omega arith
@@ -27,22 +24,16 @@ bytes (x ∷ xs) [] s k = absurd s
 bytes (x ∷ xs) (u ∷ us) s zero = s .0 .1
 bytes (x ∷ xs) (u ∷ us) s (suc k) = bytes xs us (s .1) k
 
-positions : (ρ : Repairs) (vs : List Val) → Is repairs.the-row ρ vs → InBytes ρ
-positions None vs p = tt
-positions (One j) vs p = p .1 .1 .1 .1 .0 .1
-positions (Two j k) vs p = let q = p .1 .1 .1 .1 in (q .0 .1, q .1 .0 .1)
-
 pub stored : (a : Answer) (vs : List Val) → Is answer.the-row a vs → Stored a
 stored a vs p =
     let q = p .1 .1 in
     record {
       number = q .0 .1;
       message = bytes (a .message) (q .1 .1 .0 .0) (q .1 .1 .0 .1 .1);
-      repairs = positions (a .repairs) _ (q .1 .1 .1 .0);
-      cn0 = passes _ (q .1 .1 .1 .1 .1 .0 .1);
-      index = q .1 .1 .1 .1 .1 .1 .0 .1;
-      fraction = passes _ (q .1 .1 .1 .1 .1 .1 .1 .0 .1);
-      undecided = q .1 .1 .1 .1 .1 .1 .1 .1 .0 .1;
+      cn0 = passes _ (q .1 .1 .1 .0 .1);
+      index = q .1 .1 .1 .1 .0 .1;
+      fraction = passes _ (q .1 .1 .1 .1 .1 .0 .1);
+      undecided = q .1 .1 .1 .1 .1 .1 .0 .1;
     }
 
 pub stored-short : (a : ShortAnswer) (vs : List Val) → Is short-answer.the-row a vs → Stored (ofShort a)
@@ -51,9 +42,8 @@ stored-short a vs p =
     record {
       number = q .0 .1;
       message = bytes (a .message) (q .1 .1 .0 .0) (q .1 .1 .0 .1 .1);
-      repairs = positions (a .repairs) _ (q .1 .1 .1 .0);
-      cn0 = passes _ (q .1 .1 .1 .1 .1 .0 .1);
-      index = q .1 .1 .1 .1 .1 .1 .0 .1;
-      fraction = passes _ (q .1 .1 .1 .1 .1 .1 .1 .0 .1);
-      undecided = q .1 .1 .1 .1 .1 .1 .1 .1 .0 .1;
+      cn0 = passes _ (q .1 .1 .1 .0 .1);
+      index = q .1 .1 .1 .1 .0 .1;
+      fraction = passes _ (q .1 .1 .1 .1 .1 .0 .1);
+      undecided = q .1 .1 .1 .1 .1 .1 .0 .1;
     }

@@ -11,120 +11,124 @@ use lib.Dec.{eqb}
 use lib.ListN.{length, length-append}
 use Rattle.search.specs.declared.Answer.{Answer}
 use Rattle.listing.specs.declared.Text.{Text}
-use Rattle.listing.specs.Lines.{refusedLine, noneLine, foundLine, windowLine, messageLine, windowLines}
+use Rattle.listing.specs.Lines.{refusedLine, noneLine, foundLine, saidNumber, windowLine, messageLine, windowLines}
 use Rattle.listing.specs.Windows.{TwoSearches}
 use Rattle.listing.specs.Inner.{puts, fields}
 use Rattle.listing.proofs.Lengths.{found-longer}
+use Rattle.listing.proofs.Numbered.{said-none, said-disagrees}
 use Rattle.listing.proofs.Same.{refused-not-none}
 
-module _ (k : ℕ) (a b : Answer) where
-  pub said-refused : 2 ≤ a .number → windowLines k a b ≡ refusedLine (a .number)
+-- by the numbers x and y of the two answers
+module _ (k : ℕ) (a b : Answer) {x y : ℕ} (X : x ≡ saidNumber 14 a) (Y : y ≡ saidNumber 7 b) where
+  pub said-refused : 2 ≤ x → windowLines k a b ≡ refusedLine x
   unfolding windowLines
-  said-refused h = rw (le-leb 2 (a .number) h)
+  said-refused h = rw (← X, le-leb 2 x h)
 
-  pub said-refused-short : a .number < 2 → 2 ≤ b .number → windowLines k a b ≡ refusedLine (b .number)
+  pub said-refused-short : x < 2 → 2 ≤ y → windowLines k a b ≡ refusedLine y
   unfolding windowLines
-  said-refused-short h i = rw (lt-leb 2 (a .number) h, le-leb 2 (b .number) i)
+  said-refused-short h i = rw (← X, ← Y, lt-leb 2 x h, le-leb 2 y i)
 
-  pub said-none : a .number ≡ 1 → b .number ≡ 1 → windowLines k a b ≡ noneLine k
+  pub said-neither : x ≡ 1 → y ≡ 1 → windowLines k a b ≡ noneLine k
   unfolding windowLines
-  said-none h i =
-      rw (lt-leb 2 (a .number) (omega arith), lt-leb 2 (b .number) (omega arith), eq-eqb (a .number) 1 h, eq-eqb (b .number) 1 i)
+  said-neither h i = rw (← X, ← Y, h, i)
 
   -- one of them found something
-  pub said-messages : a .number < 2 → b .number < 2 → (a .number ≢ 1) ⊎ (b .number ≢ 1)
-      → windowLines k a b ≡ messageLine k a ++ messageLine k b
+  pub said-messages : x < 2 → y < 2 → (x ≢ 1) ⊎ (y ≢ 1) → windowLines k a b ≡ messageLine 14 k a ++ messageLine 7 k b
   unfolding windowLines
-  said-messages h i o = rw (lt-leb 2 (a .number) h, lt-leb 2 (b .number) i, go o)
+  said-messages h i o = rw (← X, ← Y, lt-leb 2 x h, lt-leb 2 y i, go o)
     where
-      go : (a .number ≢ 1) ⊎ (b .number ≢ 1) → (eqb (a .number) 1 && eqb (b .number) 1) ≡ false
-      go (inl n) = rw (ne-eqb (a .number) 1 n)
-      go (inr n) = rw (ne-eqb (b .number) 1 n) (and-false (eqb (a .number) 1))
+      go : (x ≢ 1) ⊎ (y ≢ 1) → (eqb x 1 && eqb y 1) ≡ false
+      go (inl n) = rw (ne-eqb x 1 n)
+      go (inr n) = rw (ne-eqb y 1 n) (and-false (eqb x 1))
 
--- the line of a message, if there is one
-module _ (k : ℕ) (a : Answer) where
-  pub message-is : a .number ≡ 0 → messageLine k a ≡ foundLine k a
+-- the line of a message of n bytes, if there is one
+module _ (n k : ℕ) (a : Answer) where
+  message-is : saidNumber n a ≡ 0 → messageLine n k a ≡ foundLine k a
   unfolding messageLine
-  message-is e = rw (eq-eqb (a .number) 0 e)
+  message-is e = rw (eq-eqb (saidNumber n a) 0 e)
 
-  pub message-not : a .number ≢ 0 → messageLine k a ≡ []
+  message-not : saidNumber n a ≢ 0 → messageLine n k a ≡ []
   unfolding messageLine
-  message-not n = rw (ne-eqb (a .number) 0 n)
+  message-not z = rw (ne-eqb (saidNumber n a) 0 z)
 
 -- ---- put behind a text: nothing, or a line of the answer's fields
 
-module _ (k : ℕ) (a : Answer) where
-  pub no-message : (t : Text) (n : ℕ) → a .number ≢ 0 → (t ≡ puts t (messageLine k a)) × (length (messageLine k a) ≤ n)
+module _ (n k : ℕ) (a : Answer) {x : ℕ} (X : x ≡ saidNumber n a) where
+  pub no-message : (t : Text) (size : ℕ) → x ≢ 0 → (t ≡ puts t (messageLine n k a)) × (length (messageLine n k a) ≤ size)
   unfolding puts
-  no-message t n z = rw (message-not k a z) (refl, omega arith)
+  no-message t size z = rw (message-not n k a (λ e. z (X ∙ e))) (refl, omega arith)
 
-  pub one-message : (t : Text) (n : ℕ) {r : Text} → a .number ≡ 0
-      → let l = foundLine k (fields (a .index) (a .fraction) (a .message) (a .repairs) (a .slicer) (a .cn0) (a .undecided)) in
-      r ≡ puts t l → length l ≤ n → (r ≡ puts t (messageLine k a)) × (length (messageLine k a) ≤ n)
+  pub one-message : (t : Text) (size : ℕ) {r : Text} → x ≡ 0
+      → let l = foundLine k (fields (a .index) (a .fraction) (a .message) (a .location) (a .cn0) (a .undecided)) in
+      r ≡ puts t l → length l ≤ size → (r ≡ puts t (messageLine n k a)) × (length (messageLine n k a) ≤ size)
   unfolding foundLine
-  one-message t n z e h = rw (message-is k a z) (e, h)
+  one-message t size z e h = rw (message-is n k a (sym X ∙ z)) (e, h)
 
 -- ---- the claim
 
-module _ (k : ℕ) (a : Answer) where
-  pub line-found : a .number ≡ 0 → windowLine k a ≡ foundLine k a
+module _ (n k : ℕ) (a : Answer) where
+  pub line-found : saidNumber n a ≡ 0 → windowLine n k a ≡ foundLine k a
   unfolding windowLine
-  line-found e = rw (eq-eqb (a .number) 0 e)
+  line-found e = rw (eq-eqb (saidNumber n a) 0 e)
 
-  line-none : a .number ≡ 1 → windowLine k a ≡ noneLine k
+  line-none : saidNumber n a ≡ 1 → windowLine n k a ≡ noneLine k
   unfolding windowLine
-  line-none e = rw (ne-eqb (a .number) 0 (λ z. omega arith), eq-eqb (a .number) 1 e)
+  line-none e = rw (ne-eqb (saidNumber n a) 0 (λ z. omega arith), eq-eqb (saidNumber n a) 1 e)
 
-  pub line-refused : 2 ≤ a .number → windowLine k a ≡ refusedLine (a .number)
+  pub line-refused : 2 ≤ saidNumber n a → windowLine n k a ≡ refusedLine (saidNumber n a)
   unfolding windowLine
-  line-refused h = rw (ne-eqb (a .number) 0 (λ z. omega arith), ne-eqb (a .number) 1 (λ z. omega arith))
+  line-refused h = rw (ne-eqb (saidNumber n a) 0 (λ z. omega arith), ne-eqb (saidNumber n a) 1 (λ z. omega arith))
 
 module _ (k : ℕ) (a b : Answer) where
-  long-alone : b .number ≡ 1 → windowLines k a b ≡ windowLine k a
-  long-alone e = go (a .number) refl
+  pub long-alone : saidNumber 7 b ≡ 1 → windowLines k a b ≡ windowLine 14 k a
+  long-alone e = go (saidNumber 14 a) refl
     where
-      go : (n : ℕ) → a .number ≡ n → windowLines k a b ≡ windowLine k a
+      go : (x : ℕ) → saidNumber 14 a ≡ x → windowLines k a b ≡ windowLine 14 k a
       go zero q =
-          said-messages k a b (omega arith) (omega arith) (inl (λ z. omega arith))
-          ∙ rw (message-is k a q, message-not k b (λ z. omega arith), line-found k a q) (append-nil (foundLine k a))
-      go (suc zero) q = said-none k a b q e ∙ sym (line-none k a q)
-      go (suc (suc n)) q = said-refused k a b (omega arith) ∙ sym (line-refused k a (omega arith))
+          said-messages k a b refl refl (omega arith) (omega arith) (inl (λ z. omega arith))
+          ∙ rw (message-is 14 k a q, message-not 7 k b (λ z. omega arith), line-found 14 k a q) (append-nil (foundLine k a))
+      go (suc zero) q = said-neither k a b refl refl q e ∙ sym (line-none 14 k a q)
+      go (suc (suc x)) q = said-refused k a b refl refl (omega arith) ∙ sym (line-refused 14 k a (omega arith))
 
-  short-alone : a .number ≡ 1 → windowLines k a b ≡ windowLine k b
-  short-alone e = go (b .number) refl
+  pub short-alone : saidNumber 14 a ≡ 1 → windowLines k a b ≡ windowLine 7 k b
+  short-alone e = go (saidNumber 7 b) refl
     where
-      go : (n : ℕ) → b .number ≡ n → windowLines k a b ≡ windowLine k b
+      go : (x : ℕ) → saidNumber 7 b ≡ x → windowLines k a b ≡ windowLine 7 k b
       go zero q =
-          said-messages k a b (omega arith) (omega arith) (inr (λ z. omega arith))
-          ∙ rw (message-not k a (λ z. omega arith), message-is k b q, line-found k b q)
-      go (suc zero) q = said-none k a b e q ∙ sym (line-none k b q)
-      go (suc (suc n)) q = said-refused-short k a b (omega arith) (omega arith) ∙ sym (line-refused k b (omega arith))
+          said-messages k a b refl refl (omega arith) (omega arith) (inr (λ z. omega arith))
+          ∙ rw (message-not 14 k a (λ z. omega arith), message-is 7 k b q, line-found 7 k b q)
+      go (suc zero) q = said-neither k a b refl refl e q ∙ sym (line-none 7 k b q)
+      go (suc (suc x)) q = said-refused-short k a b refl refl (omega arith) (omega arith) ∙ sym (line-refused 7 k b (omega arith))
 
-  both : a .number ≡ 0 → b .number ≡ 0 → windowLines k a b ≡ foundLine k a ++ foundLine k b
-  both e q = said-messages k a b (omega arith) (omega arith) (inl (λ z. omega arith)) ∙ rw (message-is k a e, message-is k b q)
+  both : saidNumber 14 a ≡ 0 → saidNumber 7 b ≡ 0 → windowLines k a b ≡ foundLine k a ++ foundLine k b
+  both e q = said-messages k a b refl refl (omega arith) (omega arith) (inl (λ z. omega arith)) ∙ rw (message-is 14 k a e, message-is 7 k b q)
 
-  none-alone : k < 2 ^ 64 → windowLines k a b ≡ noneLine k → (a .number ≡ 1) × (b .number ≡ 1)
-  none-alone h e = go (a .number) (b .number) refl refl
+  none-alone : k < 2 ^ 64 → windowLines k a b ≡ noneLine k → (saidNumber 14 a ≡ 1) × (saidNumber 7 b ≡ 1)
+  none-alone h e = go (saidNumber 14 a) (saidNumber 7 b) refl refl
     where
       longer : (c : Answer) (rest : List ℕ) → foundLine k c ++ rest ≡ noneLine k → ⊥
       longer c rest q = omega (arith, ap length q, length-append (foundLine k c) rest, found-longer k c)
 
-      go : (m n : ℕ) → a .number ≡ m → b .number ≡ n → (a .number ≡ 1) × (b .number ≡ 1)
-      go (suc (suc m)) n p q = absurd (refused-not-none (a .number) k h (sym (said-refused k a b (omega arith)) ∙ e))
-      go zero (suc (suc n)) p q = absurd (refused-not-none (b .number) k h (sym (said-refused-short k a b (omega arith) (omega arith)) ∙ e))
+      go : (x y : ℕ) → saidNumber 14 a ≡ x → saidNumber 7 b ≡ y → (saidNumber 14 a ≡ 1) × (saidNumber 7 b ≡ 1)
+      go (suc (suc x)) y p q = absurd (refused-not-none (saidNumber 14 a) k h (sym (said-refused k a b refl refl (omega arith)) ∙ e))
+      go zero (suc (suc y)) p q = absurd (refused-not-none (saidNumber 7 b) k h (sym (said-refused-short k a b refl refl (omega arith) (omega arith)) ∙ e))
       go zero zero p q = absurd (longer a (foundLine k b) (sym (both p q) ∙ e))
-      go zero (suc zero) p q = absurd (longer a [] (append-nil (foundLine k a) ∙ (sym (line-found k a p) ∙ (sym (long-alone q) ∙ e))))
-      go (suc zero) (suc (suc n)) p q = absurd (refused-not-none (b .number) k h (sym (said-refused-short k a b (omega arith) (omega arith)) ∙ e))
-      go (suc zero) zero p q = absurd (longer b [] (append-nil (foundLine k b) ∙ (sym (line-found k b q) ∙ (sym (short-alone p) ∙ e))))
+      go zero (suc zero) p q = absurd (longer a [] (append-nil (foundLine k a) ∙ (sym (line-found 14 k a p) ∙ (sym (long-alone q) ∙ e))))
+      go (suc zero) (suc (suc y)) p q = absurd (refused-not-none (saidNumber 7 b) k h (sym (said-refused-short k a b refl refl (omega arith) (omega arith)) ∙ e))
+      go (suc zero) zero p q = absurd (longer b [] (append-nil (foundLine k b) ∙ (sym (line-found 7 k b q) ∙ (sym (short-alone p) ∙ e))))
       go (suc zero) (suc zero) p q = (p, q)
 
   pub two-searches : TwoSearches k a b
   two-searches =
+      let (x, x') = said-none 14 a in
+      let (y, y') = said-none 7 b in
       record {
-        long-alone = long-alone;
-        short-alone = short-alone;
+        long-alone = λ e. long-alone (y' e);
+        short-alone = λ e. short-alone (x' e);
         both = both;
-        none = λ h. (none-alone h, λ e. said-none k a b (e .0) (e .1));
-        refused = said-refused k a b;
-        refused-short = λ h i. said-refused-short k a b (omega arith) i;
+        none = λ h. (λ e. let (p, q) = none-alone h e in (x p, y q), λ e. said-neither k a b refl refl (x' (e .0)) (y' (e .1)));
+        refused = said-refused k a b refl refl;
+        refused-short = λ h i. said-refused-short k a b refl refl (omega arith) i;
+        disagreeing = λ z d. let e = said-disagrees 14 a z d in said-refused k a b refl refl (omega arith) ∙ ap refusedLine e;
+        disagreeing-short = λ h z d. let e = said-disagrees 7 b z d in said-refused-short k a b refl refl (omega arith) (omega arith) ∙ ap refusedLine e;
       }

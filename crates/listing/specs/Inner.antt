@@ -6,10 +6,8 @@ use Prim.Native.Nat.{ℕ, _+_}
 use lib.Dec.{leb}
 use lib.ListN.{set}
 use lib.Ieee.{Float}
-use Rattle.annex10.specs.declared.Repairs.{Repairs}
-use Rattle.place.specs.declared.Slicer.{Slicer}
+use Rattle.place.specs.declared.location.Location.{Location}
 use Rattle.search.specs.declared.Answer.{Answer}
-use Rattle.search.specs.Answers.{nowhere}
 use Rattle.listing.specs.declared.Text.{Text}
 
 -- one byte more; a full text stays as it is
@@ -20,15 +18,13 @@ putOf t b = cond (leb 256 (t .length)) t (record { length = t .length + 1; bytes
 unfoldable pub puts : Text → List ℕ → Text
 puts t bytes = foldl putOf t bytes
 
--- an answer with the fields that a line has; of the place it says nothing
-abbrev pub fields : ℕ → Float → List ℕ → Repairs → Slicer → Float → ℕ → Answer
-fields index fraction message repairs slicer cn0 undecided =
+-- an answer with a message, by its fields
+abbrev pub fields : ℕ → Float → List ℕ → Location → Float → ℕ → Answer
+fields index fraction message location cn0 undecided =
     record {
       number = 0;
-      place = nowhere;
+      location = location;
       message = message;
-      repairs = repairs;
-      slicer = slicer;
       cn0 = cn0;
       index = index;
       fraction = fraction;

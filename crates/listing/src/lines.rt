@@ -9,15 +9,14 @@ use crate::put::empty;
 use crate::put::put;
 use crate::put::put_all;
 use crate::put::put_decimal;
-use annex10::Repairs;
-use place::Slicer;
+use place::location::Location;
 use search::Answer;
 use search::ShortAnswer;
 ghost use mathlib.Core.Path.{_≡_};
 ghost use Prim.Native.Nat.{_+_, _*_, _≤_};
 ghost use lib.ListN.{length};
 ghost use Rattle.search.specs.Short.{ofShort};
-ghost use Rattle.listing.specs.Lines.{textOf, headLine, refusedLine, noneLine, foundLine, messageLine, windowLines};
+ghost use Rattle.listing.specs.Lines.{textOf, headLine, refusedLine, noneLine, foundLine, saidNumber, messageLine, windowLines};
 ghost use Rattle.listing.specs.Inner.{puts, fields};
 
 // `windows` and how many.
@@ -50,16 +49,18 @@ fn put_message(
     index: u64,
     fraction: f32,
     message: &[u8],
-    repairs: Repairs,
-    slicer: Slicer,
+    location: Location,
     cn0: f32,
     undecided: u32,
 ) -> Text
     requires { ⌜ 4 ≤ length (now message) ⌝ }
     ensures { λ r.
-        let l = foundLine window (fields index fraction (now (message .entry)) repairs slicer cn0 undecided) in
-        ⌜ (r ≡ puts t l) × (length l ≤ 2 * length (now (message .entry)) + 94) ⌝ }
+        let l = foundLine window (fields index fraction (now (message .entry)) location cn0 undecided) in
+        ⌜ (r ≡ puts t l) × (length l ≤ 2 * length (now (message .entry)) + 98) ⌝ }
 {
+    let repairs = location.repairs;
+    let slicer = location.slicer;
+    let trial = location.trial as u64;
     let t = put(put_decimal(t, window), b' ');
     let t = put(put_decimal(t, index), b' ');
     let t = put(put_float(t, fraction), b' ');
@@ -68,27 +69,48 @@ fn put_message(
     let t = put(put_repairs(t, repairs), b' ');
     let t = put(put_slicer(t, slicer), b' ');
     let t = put(put_float(t, cn0), b' ');
-    put(put_decimal(t, undecided as u64), b'\n')
+    let t = put(put_decimal(t, undecided as u64), b' ');
+    put(put_decimal(t, trial), b'\n')
+}
+
+// The number that a long answer is said by: a message at a location that is refused is none.
+fn said_long(long: Answer) -> u32
+    ensures { λ r. ⌜ r ≡ saidNumber 14 long ⌝ }
+{
+    let location = long.location;
+    if long.number != 0 {
+        return long.number;
+    }
+    location.refusal()
+}
+
+// That of a short one.
+fn said_short(short: ShortAnswer) -> u32
+    ensures { λ r. ⌜ r ≡ saidNumber 7 (ofShort short) ⌝ }
+{
+    let location = short.location;
+    if short.number != 0 {
+        return short.number;
+    }
+    location.refusal_short()
 }
 
 // The line of a long message, if there is one.
 fn put_long(t: Text, window: u64, long: Answer) -> Text
-    ensures { λ r. ⌜ (r ≡ puts t (messageLine window long)) × (length (messageLine window long) ≤ 122) ⌝ }
+    ensures { λ r. ⌜ (r ≡ puts t (messageLine 14 window long)) × (length (messageLine 14 window long) ≤ 126) ⌝ }
 {
-    if long.number != 0 {
+    if said_long(long) != 0 {
         return t;
     }
     let message = long.message;
-    let repairs = long.repairs;
-    let slicer = long.slicer;
+    let location = long.location;
     put_message(
         t,
         window,
         long.index,
         long.fraction,
         &message,
-        repairs,
-        slicer,
+        location,
         long.cn0,
         long.undecided,
     )
@@ -96,22 +118,20 @@ fn put_long(t: Text, window: u64, long: Answer) -> Text
 
 // The line of a short one, if there is one.
 fn put_short(t: Text, window: u64, short: ShortAnswer) -> Text
-    ensures { λ r. ⌜ (r ≡ puts t (messageLine window (ofShort short))) × (length (messageLine window (ofShort short)) ≤ 108) ⌝ }
+    ensures { λ r. ⌜ (r ≡ puts t (messageLine 7 window (ofShort short))) × (length (messageLine 7 window (ofShort short)) ≤ 112) ⌝ }
 {
-    if short.number != 0 {
+    if said_short(short) != 0 {
         return t;
     }
     let message = short.message;
-    let repairs = short.repairs;
-    let slicer = short.slicer;
+    let location = short.location;
     put_message(
         t,
         window,
         short.index,
         short.fraction,
         &message,
-        repairs,
-        slicer,
+        location,
         short.cn0,
         short.undecided,
     )
@@ -121,13 +141,15 @@ fn put_short(t: Text, window: u64, short: ShortAnswer) -> Text
 pub fn window_lines(window: u64, long: Answer, short: ShortAnswer) -> Text
     ensures { λ r. ⌜ r ≡ textOf (windowLines window long (ofShort short)) ⌝ }
 {
-    if long.number >= 2 {
-        return refused_line(long.number as u64);
+    let long_number = said_long(long);
+    let short_number = said_short(short);
+    if long_number >= 2 {
+        return refused_line(long_number as u64);
     }
-    if short.number >= 2 {
-        return refused_line(short.number as u64);
+    if short_number >= 2 {
+        return refused_line(short_number as u64);
     }
-    if long.number == 1 && short.number == 1 {
+    if long_number == 1 && short_number == 1 {
         return none_line(window);
     }
     put_short(put_long(empty(), window, long), window, short)

@@ -6,8 +6,11 @@ use borrow.Author.Needs.{needs}
 use Rattle.listing.proofs.lines.put_long.Statement.{statement}
 use Rattle.listing.proofs.lines.put_long.Tie as tie
 
+said-long-requires : tie.Need-said-long-requires
+said-long-requires c κs = search needs
+
 returns : tie.Need-returns
-returns c = no-message _ (c .before .before .args .long) _ _ (λ z. omega (arith, c .if1 .taken))
+returns c = no-message 14 _ (c .before .before .args .long) (c .before .said-long .ensures) _ _ (λ z. omega (arith, c .if1 .taken))
 
 slice-aggregate-put-message : tie.Need-slice-aggregate-put-message
 slice-aggregate-put-message c = search needs
@@ -17,10 +20,11 @@ put-message-requires c κs = let h = slice-aggregate-put-message c in omega (ari
 
 returns-2 : tie.Need-returns-2
 returns-2 c =
-    let start = c .before .before .before .before .before in
-    one-message _ (start .args .long) _ _ (omega (arith, c .before .before .before .if1 .left)) (c .put-message .ensures .0)
+    let if1 = c .before .before .before .before in
+    let start = if1 .before .before in
+    one-message 14 _ (start .args .long) (if1 .before .said-long .ensures) _ _ (omega (arith, if1 .if1 .left)) (c .put-message .ensures .0)
     (omega (arith, c .put-message .ensures .1, slice-aggregate-put-message (c .before)))
 
 pub put-long-spec : {M : Type 1} → statement M
 put-long-spec =
-    tie.close (tie.spec returns slice-aggregate-put-message put-message-requires returns-2)
+    tie.close (tie.spec said-long-requires returns slice-aggregate-put-message put-message-requires returns-2)

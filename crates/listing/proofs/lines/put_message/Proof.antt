@@ -1,4 +1,4 @@
--- `listing::lines::put_message` meets its contract: nine fields, one after the other.
+-- `listing::lines::put_message` meets its contract: ten fields, one after the other.
 -- Assumes nothing.
 use denote.Ref.{now}
 use Rattle.listing.specs.Lines.{foundLine}
@@ -8,6 +8,9 @@ use Rattle.listing.proofs.Lengths.{found-short}
 use borrow.Author.Needs.{needs}
 use Rattle.listing.proofs.lines.put_message.Statement.{statement}
 use Rattle.listing.proofs.lines.put_message.Tie as tie
+
+cast-trial : tie.Need-cast-trial
+cast-trial c = search needs
 
 put-decimal-requires : tie.Need-put-decimal-requires
 put-decimal-requires c κs = search needs
@@ -63,10 +66,17 @@ put-decimal-requires-3 c κs = search needs
 put-requires-9 : tie.Need-put-requires-9
 put-requires-9 c κs = search needs
 
+put-decimal-requires-4 : tie.Need-put-decimal-requires-4
+put-decimal-requires-4 c κs = search needs
+
+put-requires-10 : tie.Need-put-requires-10
+put-requires-10 c κs = search needs
+
 returns : tie.Need-returns
 unfolding foundLine
 returns c =
-    let cn0 = c .before .before .before in
+    let undecided = c .before .before .before in
+    let cn0 = undecided .before .before in
     let slicer = cn0 .before .before in
     let repairs = slicer .before .before in
     let address = repairs .before .before in
@@ -74,7 +84,8 @@ returns c =
     let fraction = avr .before .before in
     let index = fraction .before .before in
     let window = index .before .before in
-    let start = window .before .before in
+    let trial = window .before in
+    let start = trial .before .before in
     let a = start .args in (
       field-more _ _ _ _ (window .put-decimal .ensures) (index .before .put .ensures)
           (field-more _ _ _ _ (index .put-decimal2 .ensures) (fraction .before .put2 .ensures)
@@ -83,16 +94,18 @@ returns c =
           (field-more _ _ _ _ (address .put-address .ensures) (repairs .before .put5 .ensures)
           (field-more _ _ _ _ (repairs .put-repairs .ensures .0) (slicer .before .put6 .ensures)
           (field-more _ _ _ _ (slicer .put-slicer .ensures) (cn0 .before .put7 .ensures)
-          (field-more _ _ _ _ (cn0 .put-float2 .ensures) (c .before .before .put8 .ensures)
-          (field-last _ _ (c .before .put-decimal3 .ensures) (c .put9 .ensures))))))))),
-      found-short (a .window) (fields (a .index) (a .fraction) (now (a .message)) (a .repairs) (a .slicer) (a .cn0) (a .undecided)) (repairs .put-repairs .ensures .1)
-          (start .fits .undecided .fits),
+          (field-more _ _ _ _ (cn0 .put-float2 .ensures) (undecided .before .put8 .ensures)
+          (field-more _ _ _ _ (undecided .put-decimal3 .ensures) (c .before .before .put9 .ensures)
+          (field-last _ _ (c .before .put-decimal4 .ensures) (c .put10 .ensures)))))))))),
+      found-short (a .window) (fields (a .index) (a .fraction) (now (a .message)) (a .location) (a .cn0) (a .undecided)) (repairs .put-repairs .ensures .1)
+          (start .fits .undecided .fits) (trial .struct-known .given .1 .0 .fits),
     )
 
 pub put-message-spec : {M : Type 1} → statement M
 put-message-spec =
     tie.close
     (tie.spec
+    cast-trial
     put-decimal-requires
     put-requires
     put-decimal-requires-2
@@ -111,4 +124,6 @@ put-message-spec =
     put-requires-8
     put-decimal-requires-3
     put-requires-9
+    put-decimal-requires-4
+    put-requires-10
     returns)

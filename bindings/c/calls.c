@@ -111,21 +111,22 @@ static int both_are(struct khlongrae_both_answer answer, uint32_t number, uint32
     } while (0)
 
 static void decodes(void) {
-    static const uint64_t found[9] = {128, 15, 3, 1, 0, 0, 0, KHLONGRAE_COHERENT, 0};
-    static const uint64_t repaired[9] = {128, 16, 0, 0, 2, 40, 41, KHLONGRAE_COHERENT, 0};
+    static const uint64_t found[KHLONGRAE_WORDS] = {128, 15, 3, 1, 0, 0, 0, KHLONGRAE_COHERENT, 0, 1};
+    static const uint64_t repaired[KHLONGRAE_WORDS] = {128, 16, 0, 0, 2, 40, 41, KHLONGRAE_COHERENT, 0, 5};
     uint8_t damaged[14];
 
     transmit(WORKED, 14, 128);
     CHECK(decode(GOOD) == KHLONGRAE_DONE);
     CHECK(memcmp(lent.message, WORKED, 14) == 0 && lent.message[14] == 0xA5);
-    CHECK(memcmp(lent.words, found, sizeof found) == 0 && lent.words[9] == pattern.words[9]);
+    CHECK(memcmp(lent.words, found, sizeof found) == 0 && lent.words[KHLONGRAE_WORDS] == pattern.words[KHLONGRAE_WORDS]);
     CHECK(isinf(lent.floats[KHLONGRAE_FLOAT_CN0]) && lent.floats[KHLONGRAE_FLOAT_FRACTION] == -0.5f);
 
     REFUSED(KHLONGRAE_INPUT_LENGTH, c.samples = KHLONGRAE_WINDOW - 1);
     REFUSED(KHLONGRAE_INPUT_LENGTH, c.samples = 0);
     NO_ROOM(message = -1);
     NO_ROOM(message = 1);
-    NO_ROOM(words = -1); /* the eight of interface 1 */
+    NO_ROOM(words = -2); /* the eight of interface 1 */
+    NO_ROOM(words = -1); /* the nine of interface 2 */
     NO_ROOM(words = 1);
     NO_ROOM(floats = -1);
     NO_ROOM(floats = 1);
@@ -160,12 +161,12 @@ static uint32_t short_with(uint8_t fourth, uint8_t last, struct call c) {
 }
 
 static void short_decodes(void) {
-    static const uint64_t found[9] = {500, 62, 0, 1, 0, 0, 0, KHLONGRAE_COHERENT, 0};
+    static const uint64_t found[KHLONGRAE_WORDS] = {500, 62, 0, 1, 0, 0, 0, KHLONGRAE_COHERENT, 0, 1};
     struct call c = GOOD;
 
     CHECK(short_with(0, 0, GOOD) == KHLONGRAE_DONE);
     CHECK(memcmp(short_lent.message, SQUITTER, 7) == 0 && short_lent.message[7] == 0xA5);
-    CHECK(memcmp(short_lent.words, found, sizeof found) == 0 && short_lent.words[9] == pattern.words[9]);
+    CHECK(memcmp(short_lent.words, found, sizeof found) == 0 && short_lent.words[KHLONGRAE_WORDS] == pattern.words[KHLONGRAE_WORDS]);
     CHECK(isinf(short_lent.floats[KHLONGRAE_FLOAT_CN0]) && short_lent.floats[KHLONGRAE_FLOAT_FRACTION] == -0.5f);
     transmit(SQUITTER, 7, 699);
     CHECK(decode_short(GOOD) == KHLONGRAE_DONE && short_lent.words[KHLONGRAE_WORD_BIT] == 87);
@@ -209,12 +210,44 @@ static void both_decodes(void) {
     CHECK(decode_short(GOOD) == KHLONGRAE_DONE && same(&short_lent, &short_one));
 }
 
+/* the trial is the one that looks for so many repairs in this slicer's bits */
+static int agrees(const uint64_t *words) {
+    return words[KHLONGRAE_WORD_TRIAL] == 1 + 2 * words[KHLONGRAE_WORD_REPAIRS] + words[KHLONGRAE_WORD_SLICER];
+}
+
+/* Each trial finds the message that was sent for it: 1 and 2 a whole one, 3 and 4 one with a damaged bit, 5 and 6 one with two. The odd
+ * ones find it in the real part; the even ones by the norm, where the real part has nothing. A short one has no trials 5 and 6. */
+static void trials(void) {
+    struct call c = GOOD;
+    for (uint64_t trial = 1; trial <= 6; trial++) {
+        uint8_t damaged[14], damaged_short[7];
+        uint8_t damage = trial <= 2 ? 0 : trial <= 4 ? 0x80 : 0xC0;
+        enum part part = trial % 2 == 1 ? REAL : IMAGINARY;
+        memcpy(damaged, WORKED, 14);
+        damaged[5] ^= damage;
+        silence();
+        send(damaged, 14, 128, part, 1.0f);
+        for (c.level = 0; c.level < 3; c.level++) {
+            int found = trial <= 2 + 2 * c.level;
+            CHECK(decode(c) == (found ? KHLONGRAE_DONE : KHLONGRAE_NO_MESSAGE));
+            CHECK(!found || (memcmp(lent.message, WORKED, 14) == 0 && lent.words[KHLONGRAE_WORD_TRIAL] == trial && agrees(lent.words)));
+        }
+        memcpy(damaged_short, SQUITTER, 7);
+        damaged_short[4] ^= damage;
+        silence();
+        send(damaged_short, 7, 500, part, 1.0f);
+        CHECK(decode_short(GOOD) == (trial <= 4 ? KHLONGRAE_DONE : KHLONGRAE_NO_MESSAGE));
+        CHECK(trial > 4 || (memcmp(short_lent.message, SQUITTER, 7) == 0 && short_lent.words[KHLONGRAE_WORD_TRIAL] == trial));
+        CHECK(trial > 4 || agrees(short_lent.words));
+    }
+}
+
 /* the long decode finds the worked message by this slicer, with this one bit turned over (none: -1) and so many undecided */
 static int worked_is(uint64_t slicer, int position, uint64_t undecided) {
     return decode(GOOD) == KHLONGRAE_DONE && memcmp(lent.message, WORKED, 14) == 0 && lent.words[KHLONGRAE_WORD_SLICER] == slicer &&
            lent.words[KHLONGRAE_WORD_REPAIRS] == (uint64_t)(position >= 0) &&
            lent.words[KHLONGRAE_WORD_FIRST] == (uint64_t)(position >= 0 ? position : 0) &&
-           lent.words[KHLONGRAE_WORD_UNDECIDED] == undecided;
+           lent.words[KHLONGRAE_WORD_UNDECIDED] == undecided && agrees(lent.words);
 }
 
 /* the short decode finds the squitter so */
@@ -222,7 +255,7 @@ static int squitter_is(uint64_t slicer, int position, uint64_t undecided) {
     return decode_short(GOOD) == KHLONGRAE_DONE && memcmp(short_lent.message, SQUITTER, 7) == 0 &&
            short_lent.words[KHLONGRAE_WORD_SLICER] == slicer && short_lent.words[KHLONGRAE_WORD_REPAIRS] == (uint64_t)(position >= 0) &&
            short_lent.words[KHLONGRAE_WORD_FIRST] == (uint64_t)(position >= 0 ? position : 0) &&
-           short_lent.words[KHLONGRAE_WORD_UNDECIDED] == undecided;
+           short_lent.words[KHLONGRAE_WORD_UNDECIDED] == undecided && agrees(short_lent.words);
 }
 
 /* a bit without its samples is read as 0 and counted: where a 0 was sent that is all, and where a 1 was sent it is repaired, and counted
@@ -394,6 +427,7 @@ int main(void) {
     decodes();
     short_decodes();
     both_decodes();
+    trials();
     undecided();
     environments();
     messages();

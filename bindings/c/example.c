@@ -62,7 +62,7 @@ static void print_found(unsigned window, const struct found *found, size_t bytes
            words[KHLONGRAE_WORD_SLICER] == KHLONGRAE_COHERENT ? 'C' : 'N', words[KHLONGRAE_WORD_REPAIRS]);
     if (words[KHLONGRAE_WORD_REPAIRS] > 0) printf(":%" PRIu64, words[KHLONGRAE_WORD_FIRST]);
     if (words[KHLONGRAE_WORD_REPAIRS] > 1) printf(",%" PRIu64, words[KHLONGRAE_WORD_SECOND]);
-    printf(" undecided %" PRIu64 "\n", words[KHLONGRAE_WORD_UNDECIDED]);
+    printf(" undecided %" PRIu64 " trial %" PRIu64 "\n", words[KHLONGRAE_WORD_UNDECIDED], words[KHLONGRAE_WORD_TRIAL]);
 }
 
 int main(int count, char **words_given) {

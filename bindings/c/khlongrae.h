@@ -29,8 +29,8 @@ extern "C" {
 #endif
 
 /* The number of the interface that this file describes. A library of another number must not be called: see khlongrae_version. In 1 a
- * decode had eight whole numbers, without the undecided bits. */
-#define KHLONGRAE_VERSION 2
+ * decode had eight whole numbers, without the undecided bits; in 2 nine, without the trial. */
+#define KHLONGRAE_VERSION 3
 
 /* What a call answers. The window program has one number more, 10, for a malformed file; the library never answers it. */
 enum khlongrae_number {
@@ -51,7 +51,7 @@ enum khlongrae_length {
     KHLONGRAE_WINDOW = 2310,     /* numbers of a window: 1,155 samples, each a real part and an imaginary part */
     KHLONGRAE_MESSAGE = 14,      /* bytes of a message */
     KHLONGRAE_SHORT_MESSAGE = 7, /* bytes of a short one */
-    KHLONGRAE_WORDS = 9,         /* whole numbers of a decode */
+    KHLONGRAE_WORDS = 10,        /* whole numbers of a decode */
     KHLONGRAE_FLOATS = 2,        /* floats of a decode */
     KHLONGRAE_LINE = 30,         /* bytes of the AVR line of a message */
     KHLONGRAE_SHORT_LINE = 16    /* bytes of that of a short one */
@@ -59,19 +59,22 @@ enum khlongrae_length {
 
 /* The whole numbers of a decode, by their place in `words`. */
 enum khlongrae_word {
-    KHLONGRAE_WORD_INDEX = 0,    /* when the message came: the number of its first sample, at 8,000,000 samples a second */
-    KHLONGRAE_WORD_BIT = 1,      /* where it was read: bit offset, 1 to 31, of a short message 1 to 87, */
-    KHLONGRAE_WORD_PHASE = 2,    /*     clock phase, 0 to 3, */
-    KHLONGRAE_WORD_SYMBOL = 3,   /*     symbol offset, 0 or 1; its first sample in the window is 4 * (2 * bit + symbol) + phase */
-    KHLONGRAE_WORD_REPAIRS = 4,  /* how many bits were turned over: 0, 1 or 2, of a short message 0 or 1 */
-    KHLONGRAE_WORD_FIRST = 5,    /* the first of them, 0 to 111, of a short message 0 to 55 (bit 0 is the top bit of byte 0), or 0 where
-                                    there is none */
-    KHLONGRAE_WORD_SECOND = 6,   /* the second of them, above the first, or 0 where there is none */
-    KHLONGRAE_WORD_SLICER = 7,   /* who read the bits: see below */
-    KHLONGRAE_WORD_UNDECIDED = 8 /* how many of the 112 bits, of a short message of the 56, were undecided: neither half of the bit was
-                                    strictly greater than the other by what the slicer compares, so they were equal or one was no number.
-                                    Such a bit is read as 0, but nothing was received that tells 0 from 1. Bits are counted as they were
-                                    read: one that was turned over may be among them. 0 here and 0 repairs: every bit was received */
+    KHLONGRAE_WORD_INDEX = 0,     /* when the message came: the number of its first sample, at 8,000,000 samples a second */
+    KHLONGRAE_WORD_BIT = 1,       /* where it was read: bit offset, 1 to 31, of a short message 1 to 87, */
+    KHLONGRAE_WORD_PHASE = 2,     /*     clock phase, 0 to 3, */
+    KHLONGRAE_WORD_SYMBOL = 3,    /*     symbol offset, 0 or 1; its first sample in the window is 4 * (2 * bit + symbol) + phase */
+    KHLONGRAE_WORD_REPAIRS = 4,   /* how many bits were turned over: 0, 1 or 2, of a short message 0 or 1 */
+    KHLONGRAE_WORD_FIRST = 5,     /* the first of them, 0 to 111, of a short message 0 to 55 (bit 0 is the top bit of byte 0), or 0 where
+                                     there is none */
+    KHLONGRAE_WORD_SECOND = 6,    /* the second of them, above the first, or 0 where there is none */
+    KHLONGRAE_WORD_SLICER = 7,    /* who read the bits: see below */
+    KHLONGRAE_WORD_UNDECIDED = 8, /* how many of the 112 bits, of a short message of the 56, were undecided: neither half of the bit was
+                                     strictly greater than the other by what the slicer compares, so they were equal or one was no number.
+                                     Such a bit is read as 0, but nothing was received that tells 0 from 1. Bits are counted as they were
+                                     read: one that was turned over may be among them. 0 here and 0 repairs: every bit was received */
+    KHLONGRAE_WORD_TRIAL = 9      /* which of the six trials found it, 1 to 6, of a short message 1 to 4: 1 + 2 * repairs + slicer. A
+                                     place is tried in this order: without a repair, with one, with two, each time by the real part and
+                                     then by the norm */
 };
 
 enum khlongrae_slicer {
@@ -86,8 +89,8 @@ enum khlongrae_float {
                                     that starts exactly with sample N has the index N and the fraction -0.5: it takes 0.5 off */
 };
 
-/* The number of the library's interface: compare it with KHLONGRAE_VERSION before any other call. It grows where a signature, a length
- * or the meaning of a field changes. */
+/* The number of the library's interface: compare it with KHLONGRAE_VERSION before any other call. It grows by 1 where a signature, a
+ * length or the meaning of a field changes. */
 uint32_t khlongrae_version(void);
 
 /* Looks for a message of 14 bytes in a window, and writes what it found.
@@ -99,7 +102,7 @@ uint32_t khlongrae_version(void);
  *   distance   says
  *   index      the receiver's number of the window's sample 128
  *   message    14 bytes: the message after its repairs. To see what was read, turn the repaired bits over again
- *   words      9 whole numbers: see enum khlongrae_word
+ *   words      10 whole numbers: see enum khlongrae_word
  *   floats     2 floats: see enum khlongrae_float
  *
  * Answers 0 and has written all three outputs, or 1, 2, 3, 4, 5 or 6 and has written nothing. */

@@ -12,10 +12,10 @@ fn told(error: FileError) -> String {
 }
 
 fn print<const N: usize>(output: &mut impl Write, k: usize, found: &Answer<N>) -> std::io::Result<()> {
-    let Answer { place, index, slicer, repairs, undecided, .. } = found;
+    let Answer { place, index, slicer, repairs, undecided, trial, .. } = found;
     let address = found.address().map_or_else(|| "-".into(), |address| address.to_string());
     write!(output, "{k} {} address {address} place {place} index {index}", found.avr())?;
-    writeln!(output, " slicer {slicer} repairs {repairs} undecided {undecided}")
+    writeln!(output, " slicer {slicer} repairs {repairs} undecided {undecided} trial {trial}")
 }
 
 fn run() -> Result<(), Box<dyn Error>> {

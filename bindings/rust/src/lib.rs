@@ -42,8 +42,8 @@ pub use window::{
     Answer, BothAnswers, Place, Settings, ShortAnswer, Slicer, decode, decode_both, decode_into, decode_short, decode_short_into,
 };
 
-/// The number of the library's interface. Compare it with [`VERSION`] before any other call: it grows where a signature, a length or
-/// the meaning of a field changes.
+/// The number of the library's interface. Compare it with [`VERSION`] before any other call: it grows by 1 where a signature, a length
+/// or the meaning of a field changes.
 #[must_use]
 pub fn version() -> u32 {
     // SAFETY: no memory is lent.

@@ -6,7 +6,7 @@
 //! one see to it.
 
 /// The number of the interface that is described here.
-pub const VERSION: u32 = 2;
+pub const VERSION: u32 = 3;
 
 /// Done.
 pub const DONE: u32 = 0;
@@ -36,7 +36,7 @@ pub const MESSAGE: usize = 14;
 /// Bytes of a short message.
 pub const SHORT_MESSAGE: usize = 7;
 /// Whole numbers of a decode.
-pub const WORDS: usize = 9;
+pub const WORDS: usize = 10;
 /// Floats of a decode.
 pub const FLOATS: usize = 2;
 /// Bytes of the AVR line of a message.
@@ -62,6 +62,8 @@ pub const WORD_SECOND: usize = 6;
 pub const WORD_SLICER: usize = 7;
 /// Of the words, how many bits were undecided.
 pub const WORD_UNDECIDED: usize = 8;
+/// Of the words, which of the six trials found the message.
+pub const WORD_TRIAL: usize = 9;
 
 /// The slicer by the real part.
 pub const COHERENT: u64 = 0;

@@ -83,6 +83,10 @@ pub struct Answer<const N: usize = MESSAGE> {
     /// they were equal or one was no number. Such a bit is read as 0, but nothing was received that tells 0 from 1. Bits are counted as
     /// they were read: a repaired one may be among them. 0 here and no repairs mean that every bit was received.
     pub undecided: u32,
+    /// Which of the six trials found it, 1 to 6, of a short message 1 to 4. A place is tried in this order: without a repair, with one,
+    /// with two, each time by the real part and then by the norm. It agrees with `repairs` and `slicer`: 1, and 2 more for each repair,
+    /// and 1 more for [`Slicer::Noncoherent`].
+    pub trial: u8,
 }
 
 /// What a decode found of a short message.
@@ -139,8 +143,8 @@ impl<const N: usize> Lent<N> {
 
     /// What is written there, if something is.
     fn answer(&self, written: bool) -> Option<Answer<N>> {
-        // All but the index are small: it is proved that the place is one of the 248 or 696, that a position lies in the message, and
-        // that what is counted are bits of the message.
+        // All but the index are small: it is proved that the place is one of the 248 or 696, that a position lies in the message, that
+        // what is counted are bits of the message, and that a trial is at most the sixth.
         let small = |word: usize| self.words[word] as u32;
         written.then(|| Answer {
             message: self.message,
@@ -155,6 +159,7 @@ impl<const N: usize> Lent<N> {
             fraction: self.floats[raw::FLOAT_FRACTION],
             cn0: self.floats[raw::FLOAT_CN0],
             undecided: small(raw::WORD_UNDECIDED),
+            trial: self.words[raw::WORD_TRIAL] as u8,
         })
     }
 }

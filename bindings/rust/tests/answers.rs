@@ -12,6 +12,7 @@ const FOUND: Answer = Answer {
     fraction: -0.5,
     cn0: f32::INFINITY,
     undecided: 0,
+    trial: 1,
 };
 
 const SQUITTER: [u8; SHORT_MESSAGE] = [0x5D, 0x48, 0x40, 0xD6, 0xF8, 0x74, 0x0F];
@@ -24,6 +25,7 @@ const SHORT_FOUND: ShortAnswer = Answer {
     fraction: -0.5,
     cn0: f32::INFINITY,
     undecided: 0,
+    trial: 1,
 };
 
 /// Adds a pulse in the first half of each bit that is 1, in the second half of each that is 0, from a sample on, in the real part (0) or
@@ -47,6 +49,11 @@ fn window(message: &[u8], from: usize) -> [f32; WINDOW] {
 /// Takes the samples of n bits away, from bit j of a message on, and the sample before them: the message may be read one sample early.
 fn blank(samples: &mut [f32; WINDOW], from: usize, j: usize, n: usize) {
     samples[2 * (from + 8 * j - 1)..2 * (from + 8 * (j + n))].fill(0.0);
+}
+
+/// The trial is the one that looks for so many repairs in this slicer's bits.
+fn agrees<const N: usize>(answer: &Answer<N>) -> bool {
+    usize::from(answer.trial) == 1 + 2 * answer.repairs.count() + usize::from(answer.slicer == Slicer::Noncoherent)
 }
 
 #[test]
@@ -75,6 +82,7 @@ fn found_after(damage: &[usize], settings: Settings) -> Option<Answer> {
     if let Some(answer) = found {
         assert_eq!(answer.message, WORKED);
         assert_eq!(answer.received(), damaged);
+        assert!(agrees(&answer));
     }
     found
 }
@@ -86,6 +94,7 @@ fn short_found_after(damage: &[usize], settings: Settings) -> Option<ShortAnswer
     if let Some(answer) = found {
         assert_eq!(answer.message, SQUITTER);
         assert_eq!(answer.received(), damaged);
+        assert!(agrees(&answer));
     }
     found
 }
@@ -155,9 +164,37 @@ fn both_kinds_are_found() {
     assert_eq!((short.message, short.slicer), (SQUITTER, Slicer::Noncoherent));
 }
 
+/// A window in which a trial finds a message: 1 and 2 a whole one, 3 and 4 one with a damaged bit, 5 and 6 one with two. The odd ones find
+/// it in the real part; the even ones by the norm, where the real part has nothing.
+fn window_for<const N: usize>(trial: u8, message: [u8; N], from: usize) -> [f32; WINDOW] {
+    let damage = &[40, 41][..usize::from(trial - 1) / 2];
+    let mut samples = [0.0; WINDOW];
+    send(&mut samples, &damaged(message, damage), from, usize::from(trial % 2 == 0), 1.0);
+    samples
+}
+
+/// Each trial is told by its number, at each level at which it is made. A short message has no trials 5 and 6.
+#[test]
+fn the_trial_is_told() {
+    for trial in 1..=6 {
+        for level in 0..=2 {
+            let settings = Settings { level, ..SETTINGS };
+            let told = |most: u32| (u32::from(trial) <= 2 + 2 * level.min(most)).then_some(trial);
+            let long = decode(&window_for(trial, WORKED, 128), settings, 128).unwrap();
+            assert_eq!(long.map(|found| (found.message, found.trial)), told(2).map(|trial| (WORKED, trial)));
+            assert!(long.is_none_or(|found| agrees(&found)));
+            let short = decode_short(&window_for(trial, SQUITTER, 500), settings, 128).unwrap();
+            assert_eq!(short.map(|found| (found.message, found.trial)), told(1).map(|trial| (SQUITTER, trial)));
+            assert!(short.is_none_or(|found| agrees(&found)));
+        }
+    }
+}
+
 /// The message, and what is told of how its bits were read.
 fn read<const N: usize>(found: Option<Answer<N>>) -> ([u8; N], Slicer, Repairs, u32) {
-    let Answer { message, slicer, repairs, undecided, .. } = found.unwrap();
+    let found = found.unwrap();
+    assert!(agrees(&found));
+    let Answer { message, slicer, repairs, undecided, .. } = found;
     (message, slicer, repairs, undecided)
 }
 
@@ -211,13 +248,13 @@ fn silence_is_an_answer() {
     assert_eq!(decode_into(&[0.0; WINDOW], SETTINGS, 128, &mut lent.0, &mut lent.1, &mut lent.2), Ok(false));
     assert_eq!(lent, kept);
     assert_eq!(decode_into(&window(&WORKED, 128), SETTINGS, 128, &mut lent.0, &mut lent.1, &mut lent.2), Ok(true));
-    assert_eq!(lent, (WORKED, [128, 15, 3, 1, 0, 0, 0, 0, 0], [f32::INFINITY, -0.5]));
+    assert_eq!(lent, (WORKED, [128, 15, 3, 1, 0, 0, 0, 0, 0, 1], [f32::INFINITY, -0.5]));
     let mut lent = ([0xA5; SHORT_MESSAGE], [0xA5A5; WORDS], [1.5; FLOATS]);
     let kept = lent;
     assert_eq!(decode_short_into(&[0.0; WINDOW], SETTINGS, 128, &mut lent.0, &mut lent.1, &mut lent.2), Ok(false));
     assert_eq!(lent, kept);
     assert_eq!(decode_short_into(&window(&SQUITTER, 500), SETTINGS, 128, &mut lent.0, &mut lent.1, &mut lent.2), Ok(true));
-    assert_eq!(lent, (SQUITTER, [500, 62, 0, 1, 0, 0, 0, 0, 0], [f32::INFINITY, -0.5]));
+    assert_eq!(lent, (SQUITTER, [500, 62, 0, 1, 0, 0, 0, 0, 0, 1], [f32::INFINITY, -0.5]));
 }
 
 #[test]
@@ -301,7 +338,7 @@ fn refused_decodes_leave_lent_memory_as_it_was() {
     let right = [0, 0, 0];
     refused(Refusal::InputLength, &samples[1..], SETTINGS, 128, right);
     refused(Refusal::InputLength, &[], SETTINGS, 128, right);
-    for wrong in [[-1, 0, 0], [1, 0, 0], [0, -1, 0], [0, 1, 0], [0, 0, -1], [0, 0, 1], [-7, -9, -2]] {
+    for wrong in [[-1, 0, 0], [1, 0, 0], [0, -1, 0], [0, 1, 0], [0, 0, -1], [0, 0, 1], [-7, -10, -2]] {
         refused(Refusal::OutputLength, &samples, SETTINGS, 128, wrong);
     }
     refused(Refusal::Level, &samples, Settings { level: 3, ..SETTINGS }, 128, right);
@@ -315,8 +352,8 @@ fn refused_decodes_leave_lent_memory_as_it_was() {
 fn the_lowest_number_is_told() {
     let samples = window(&WORKED, 128);
     let bad = Settings { level: 3, threshold: f32::NAN, ..SETTINGS };
-    refused(Refusal::InputLength, &samples[1..], bad, 0, [-7, -9, -2]);
-    refused(Refusal::OutputLength, &samples, bad, 0, [-7, -9, -2]);
+    refused(Refusal::InputLength, &samples[1..], bad, 0, [-7, -10, -2]);
+    refused(Refusal::OutputLength, &samples, bad, 0, [-7, -10, -2]);
     refused(Refusal::Level, &samples, bad, 0, [0, 0, 0]);
     refused(Refusal::Threshold, &samples, Settings { level: 2, ..bad }, 0, [0, 0, 0]);
 }

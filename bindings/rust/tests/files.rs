@@ -118,10 +118,10 @@ fn a_file_is_read() {
 /// The line of a listing for a message of window k.
 fn line<const N: usize>(k: usize, found: &Answer<N>) -> String {
     let bits = |x: f32| if x.is_nan() { 0x7FC0_0000 } else { x.to_bits() };
-    let Answer { index, fraction, repairs, slicer, cn0, undecided, .. } = *found;
+    let Answer { index, fraction, repairs, slicer, cn0, undecided, trial, .. } = *found;
     let address = found.address().map_or("-".into(), |address| address.to_string());
     let (avr, fraction, cn0) = (found.avr(), bits(fraction), bits(cn0));
-    format!("{k} {index} {fraction:08X} {avr} {address} {repairs} {slicer} {cn0:08X} {undecided}\n")
+    format!("{k} {index} {fraction:08X} {avr} {address} {repairs} {slicer} {cn0:08X} {undecided} {trial}\n")
 }
 
 #[test]

@@ -19,8 +19,8 @@ use Rattle.khlongrae.specs.Flat.{Lent, Written, holding, filled, written
 
 -- ---- number 0 says that the lengths are right
 
-room-tested : (bytes : ℕ) (m w : List ℕ) (x : List Float) (s a b c : Bool) → eqb (length m) bytes ≡ a → eqb (length w) 9 ≡ b → eqb (length x) 2 ≡ c
-    → _≡_ {A = ℕ} (cond s (cond (a && (b && c)) 0 3) 2) 0 → (length m ≡ bytes) × (length w ≡ 9) × (length x ≡ 2)
+room-tested : (bytes : ℕ) (m w : List ℕ) (x : List Float) (s a b c : Bool) → eqb (length m) bytes ≡ a → eqb (length w) 10 ≡ b → eqb (length x) 2 ≡ c
+    → _≡_ {A = ℕ} (cond s (cond (a && (b && c)) 0 3) 2) 0 → (length m ≡ bytes) × (length w ≡ 10) × (length x ≡ 2)
 room-tested bytes m w x true true true true e f g h = (eqb-true _ _ e, eqb-true _ _ f, eqb-true _ _ g)
 room-tested bytes m w x true true true false e f g h = absurd (omega arith)
 room-tested bytes m w x true true false c e f g h = absurd (omega arith)
@@ -28,7 +28,7 @@ room-tested bytes m w x true false b c e f g h = absurd (omega arith)
 room-tested bytes m w x false a b c e f g h = absurd (omega arith)
 
 pub room : (bytes : ℕ) (samples : List Float) (m w : List ℕ) (x : List Float) {n : ℕ} → n ≡ lentNumber bytes samples (m, w, x) → n ≡ 0
-    → (length m ≡ bytes) × (length w ≡ 9) × (length x ≡ 2)
+    → (length m ≡ bytes) × (length w ≡ 10) × (length x ≡ 2)
 unfolding lentNumber
 room bytes samples m w x e z = room-tested bytes m w x (eqb (length samples) 2310) _ _ _ refl refl refl (sym e ∙ z)
 

@@ -9,9 +9,9 @@ use lib.Ieee.{Float}
 use Rattle.annex10.specs.declared.Repairs.{Repairs}
 use Rattle.annex10.specs.declared.Repairs.the-variants.{None, One, Two}
 use Rattle.annex10.specs.Repair.{count}
-use Rattle.place.specs.declared.Place.{Place}
 use Rattle.place.specs.declared.Slicer.{Slicer}
 use Rattle.place.specs.declared.Slicer.the-variants.{Coherent, Noncoherent}
+use Rattle.place.specs.declared.location.Location.{Location}
 use Rattle.search.specs.declared.Settings.{Settings}
 use Rattle.search.specs.declared.Answer.{Answer}
 use Rattle.search.specs.Kinds.{Kind, long, short}
@@ -37,14 +37,14 @@ abbrev pub slicerCode : Slicer → ℕ
 slicerCode Coherent = 0
 slicerCode Noncoherent = 1
 
--- index, bit offset, clock phase, symbol offset, how many repairs, the two positions, the slicer, how many bits were undecided
-abbrev pub rowOf : ℕ → Place → Repairs → Slicer → ℕ → List ℕ
-rowOf index p ρ slicer undecided =
-    index ∷ p .bit ∷ p .phase ∷ p .symbol
-    ∷ count ρ ∷ firstOf ρ ∷ secondOf ρ ∷ slicerCode slicer ∷ undecided ∷ []
+-- index, bit offset, clock phase, symbol offset, how many repairs, the two positions, the slicer, how many bits were undecided, the trial
+abbrev pub rowOf : ℕ → Location → ℕ → List ℕ
+rowOf index l undecided =
+    index ∷ l .place .bit ∷ l .place .phase ∷ l .place .symbol
+    ∷ count (l .repairs) ∷ firstOf (l .repairs) ∷ secondOf (l .repairs) ∷ slicerCode (l .slicer) ∷ undecided ∷ l .trial ∷ []
 
 abbrev pub wordsOf : Answer → List ℕ
-wordsOf a = rowOf (a .index) (a .place) (a .repairs) (a .slicer) (a .undecided)
+wordsOf a = rowOf (a .index) (a .location) (a .undecided)
 
 -- cn0 and the fraction
 abbrev pub numbersOf : Answer → List Float
@@ -73,10 +73,10 @@ written a old = filled (a .number) (a .message, wordsOf a, numbersOf a) old
 unfoldable pub writtenOr : ℕ → Answer → Lent → Written
 writtenOr n a old = cond (eqb n 0) (written a old) (holding n old)
 
--- a window has 2,310 numbers, else 2; the memory has so many bytes, 9 whole numbers and 2 floats, else 3
+-- a window has 2,310 numbers, else 2; the memory has so many bytes, 10 whole numbers and 2 floats, else 3
 unfoldable pub lentNumber : ℕ → List Float → Lent → ℕ
 lentNumber bytes samples (message, words, numbers) =
-    cond (eqb (length samples) 2310) (cond (eqb (length message) bytes && (eqb (length words) 9 && eqb (length numbers) 2)) 0 3) 2
+    cond (eqb (length samples) 2310) (cond (eqb (length message) bytes && (eqb (length words) 10 && eqb (length numbers) 2)) 0 3) 2
 
 -- THE DECODE INTO LENT MEMORY
 unfoldable pub decodeInto : Kind → List Float → Settings → ℕ → Lent → Written

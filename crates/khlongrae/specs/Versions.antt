@@ -3,4 +3,4 @@
 use Prim.Native.Nat.{ℕ}
 
 abbrev pub versionNumber : ℕ
-versionNumber = 2
+versionNumber = 3

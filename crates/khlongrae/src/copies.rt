@@ -11,11 +11,11 @@ pub fn put_bytes(from: &[u8], to: &mut [u8])
     }
 }
 
-pub fn put_words(from: [u64; 9], to: &mut [u64])
-    requires { ⌜ length (now to) ≡ 9 ⌝ }
+pub fn put_words(from: [u64; 10], to: &mut [u64])
+    requires { ⌜ length (now to) ≡ 10 ⌝ }
     ensures { λ _. ⌜ now (to .exit) ≡ from ⌝ }
 {
-    for i in 0..9 {
+    for i in 0..10 {
         to[i] = from[i];
     }
 }

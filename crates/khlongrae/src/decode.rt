@@ -26,7 +26,7 @@ fn lent_number(bytes: usize, samples: &[f32], message: &[u8], words: &[u64], num
     if message.len() != bytes {
         return 3;
     }
-    if words.len() != 9 {
+    if words.len() != 10 {
         return 3;
     }
     if numbers.len() != 2 {
@@ -35,7 +35,7 @@ fn lent_number(bytes: usize, samples: &[f32], message: &[u8], words: &[u64], num
     0
 }
 
-// Answers number 0 and writes the message (14 bytes), the whole numbers (9) and the floats (2). Any other number writes nothing.
+// Answers number 0 and writes the message (14 bytes), the whole numbers (10) and the floats (2). Any other number writes nothing.
 // Refused: 2 a window that has not 2,310 numbers, 3 lent memory of another length, 4 a level above 2, 5 a threshold that is
 // not finite, 6 an index below 128 or above 2^63; 1 where no message is found.
 #[no_mangle]

@@ -1,8 +1,8 @@
 // An answer as rows of numbers.
 use annex10::Repairs;
-use choice::best::repairs_of;
-use place::Place;
+use annex10::repairs_of;
 use place::Slicer;
+use place::location::Location;
 ghost use mathlib.Core.Path.{_≡_};
 ghost use Rattle.khlongrae.specs.Flat.{firstOf, secondOf, slicerCode, rowOf};
 
@@ -35,16 +35,13 @@ fn code_of(slicer: Slicer) -> u64
     }
 }
 
-// Index, bit offset, clock phase, symbol offset, how many repairs, the two positions, the slicer, how many bits were undecided.
-pub fn words_of(
-    index: u64,
-    place: Place,
-    repairs: Repairs,
-    slicer: Slicer,
-    undecided: u32,
-) -> [u64; 9]
-    ensures { λ r. ⌜ r ≡ rowOf index place repairs slicer undecided ⌝ }
+// Index, bit offset, clock phase, symbol offset, how many repairs, the two positions, the slicer, how many bits were undecided, the trial.
+pub fn words_of(index: u64, location: Location, undecided: u32) -> [u64; 10]
+    ensures { λ r. ⌜ r ≡ rowOf index location undecided ⌝ }
 {
+    let place = location.place;
+    let repairs = location.repairs;
+    let slicer = location.slicer;
     [
         index,
         place.bit as u64,
@@ -55,5 +52,6 @@ pub fn words_of(
         second_of(repairs),
         code_of(slicer),
         undecided as u64,
+        location.trial as u64,
     ]
 }

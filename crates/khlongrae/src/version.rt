@@ -7,5 +7,5 @@ ghost use Rattle.khlongrae.specs.Versions.{versionNumber};
 pub extern "C" fn khlongrae_version() -> u32
     ensures { λ r. ⌜ r ≡ versionNumber ⌝ }
 {
-    2
+    3
 }

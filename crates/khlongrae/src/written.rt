@@ -14,13 +14,13 @@ ghost use Rattle.khlongrae.specs.Flat.{filled, written};
 fn fill(
     number: u32,
     found: &[u8],
-    row: [u64; 9],
+    row: [u64; 10],
     pair: [f32; 2],
     message: &mut [u8],
     words: &mut [u64],
     numbers: &mut [f32],
 ) -> u32
-    requires { ⌜ (length (now message) ≡ length (now found)) × (length (now words) ≡ 9) × (length (now numbers) ≡ 2) ⌝ }
+    requires { ⌜ (length (now message) ≡ length (now found)) × (length (now words) ≡ 10) × (length (now numbers) ≡ 2) ⌝ }
     ensures { λ r. ⌜ (r, now (message .exit), now (words .exit), now (numbers .exit)) ≡ filled number (now (found .entry), row, pair) (now (message .entry), now (words .entry), now (numbers .entry)) ⌝ }
 {
     if number != 0 {
@@ -34,14 +34,12 @@ fn fill(
 
 // An answer: number 0 with its message, words and numbers, or a number that leaves the memory as it was.
 pub fn write(a: Answer, message: &mut [u8], words: &mut [u64], numbers: &mut [f32]) -> u32
-    requires { ⌜ (length (now message) ≡ 14) × (length (now words) ≡ 9) × (length (now numbers) ≡ 2) ⌝ }
+    requires { ⌜ (length (now message) ≡ 14) × (length (now words) ≡ 10) × (length (now numbers) ≡ 2) ⌝ }
     ensures { λ r. ⌜ (r, now (message .exit), now (words .exit), now (numbers .exit)) ≡ written a (now (message .entry), now (words .entry), now (numbers .entry)) ⌝ }
 {
     let found = a.message;
-    let place = a.place;
-    let repairs = a.repairs;
-    let slicer = a.slicer;
-    let row = words_of(a.index, place, repairs, slicer, a.undecided);
+    let location = a.location;
+    let row = words_of(a.index, location, a.undecided);
     fill(
         a.number,
         &found,
@@ -60,14 +58,12 @@ pub fn write_short(
     words: &mut [u64],
     numbers: &mut [f32],
 ) -> u32
-    requires { ⌜ (length (now message) ≡ 7) × (length (now words) ≡ 9) × (length (now numbers) ≡ 2) ⌝ }
+    requires { ⌜ (length (now message) ≡ 7) × (length (now words) ≡ 10) × (length (now numbers) ≡ 2) ⌝ }
     ensures { λ r. ⌜ (r, now (message .exit), now (words .exit), now (numbers .exit)) ≡ written (ofShort a) (now (message .entry), now (words .entry), now (numbers .entry)) ⌝ }
 {
     let found = a.message;
-    let place = a.place;
-    let repairs = a.repairs;
-    let slicer = a.slicer;
-    let row = words_of(a.index, place, repairs, slicer, a.undecided);
+    let location = a.location;
+    let row = words_of(a.index, location, a.undecided);
     fill(
         a.number,
         &found,

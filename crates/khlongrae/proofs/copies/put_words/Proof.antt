@@ -9,10 +9,10 @@ use Rattle.khlongrae.proofs.copies.put_words.Statement.{statement}
 use Rattle.khlongrae.proofs.copies.put_words.Tie as tie
 
 abbrev Inv-loop : tie.InvT-loop
-Inv-loop to₀ from i₀ to i = (i ≤ 9) × Done 0 (λ (k : ℕ). getD from k 0) 9 to i
+Inv-loop to₀ from i₀ to i = (i ≤ 10) × Done 0 (λ (k : ℕ). getD from k 0) 10 to i
 
 abbrev μ-loop : tie.MeasureT-loop
-μ-loop to₀ from i₀ to i = 9 - i
+μ-loop to₀ from i₀ to i = 10 - i
 
 loop-holds : tie.Need-loop-holds Inv-loop μ-loop
 loop-holds c = (search needs, done-none _ _ _ _ (c .pre))

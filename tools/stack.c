@@ -16,16 +16,20 @@ static unsigned found[CALLS];
 
 static void *run(void *unused) {
     static uint8_t message[14], short_message[7];
-    static uint64_t words[9], short_words[9];
+    static uint64_t words[KHLONGRAE_WORDS], short_words[KHLONGRAE_WORDS];
     static float numbers[2], short_numbers[2];
     struct khlongrae_both_answer both = {1, 1};
     (void)unused;
     switch (call) {
-    case LONG: both.number = khlongrae_decode(samples, NUMBERS, 2, 0.0f, 0.0f, 112, 128, message, 14, words, 9, numbers, 2); break;
-    case SHORT: both.number = khlongrae_decode_short(samples, NUMBERS, 2, 0.0f, 0.0f, 112, 128, message, 7, words, 9, numbers, 2); break;
+    case LONG:
+        both.number = khlongrae_decode(samples, NUMBERS, 2, 0.0f, 0.0f, 112, 128, message, 14, words, KHLONGRAE_WORDS, numbers, 2);
+        break;
+    case SHORT:
+        both.number = khlongrae_decode_short(samples, NUMBERS, 2, 0.0f, 0.0f, 112, 128, message, 7, words, KHLONGRAE_WORDS, numbers, 2);
+        break;
     case BOTH:
-        both = khlongrae_decode_both(samples, NUMBERS, 2, 0.0f, 0.0f, 112, 128, message, 14, words, 9, numbers, 2, short_message, 7,
-                                     short_words, 9, short_numbers, 2);
+        both = khlongrae_decode_both(samples, NUMBERS, 2, 0.0f, 0.0f, 112, 128, message, 14, words, KHLONGRAE_WORDS, numbers, 2,
+                                     short_message, 7, short_words, KHLONGRAE_WORDS, short_numbers, 2);
         break;
     default: break;
     }

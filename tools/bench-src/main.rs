@@ -14,7 +14,7 @@ use std::time::Instant;
 
 const INDEX: u64 = 128_000;
 /// How many whole numbers a decode writes.
-const WORDS: usize = 9;
+const WORDS: usize = 10;
 
 /// Who decodes: each has its windows at hand, and answers whether window i holds a message.
 type Decoder = Box<dyn FnMut(usize) -> bool>;
@@ -98,12 +98,14 @@ unsafe extern "C" {
     fn before_khlongrae_version() -> u32;
 }
 
-/// How many whole numbers a decode writes, by the number of the library's interface: in 1 it did not count undecided bits.
+/// How many whole numbers a decode writes, by the number of the library's interface: in 1 it did not count undecided bits, in 2 it did not
+/// tell the trial.
 #[cfg(before)]
 fn words_by(version: u32) -> usize {
     match version {
         1 => 8,
-        2 => WORDS,
+        2 => 9,
+        3 => WORDS,
         _ => panic!("the archive before has the interface number {version}, which is not known here"),
     }
 }

@@ -39,6 +39,8 @@ macro_rules! ask {
                 index,
                 fraction,
                 undecided: 0,
+                // The Rust does not name the trial: it is the one that looks for so many errors in this slicer's bits.
+                trial: 1 + 2 * u64::from(repairs[0]) + u64::from(slicer),
             },
         }
     }};
@@ -488,7 +490,7 @@ fn main() {
         f.same(name, 0, known.fields(), b.fields());
         f.same(name, 0, cause(&known, &a, &l, &only_s, &b), Some(CAUSES[wanted]));
         f.same(name, 0, ours.fields(), long.fields());
-        recorded.push(recipe.record(&Answer { undecided: long.undecided, ..b }, &short));
+        recorded.push(recipe.record(&Answer { undecided: long.undecided, trial: long.trial, ..b }, &short));
         if g.show {
             println!("{name}\n  ours: {ours:?}\n  A:    {a:?}");
         }
@@ -528,7 +530,7 @@ fn main() {
             let most = &mut most_undecided[kind][found.slicer as usize];
             *most = found.undecided.max(*most);
         }
-        // The Rust has no marks: undecided bits are compared with the rules alone.
+        // The Rust has no marks: undecided bits are compared with the rules alone. The trial is compared with both.
         let known = ours.but_undecided();
         let b = ask!(o.b, s, samples, index);
         if with_b && !f.same("answer, by the Rust B", number, known.fields(), b.fields()) {
@@ -568,7 +570,7 @@ fn main() {
             let brings: Vec<usize> = (0..now.len()).filter(|&k| now[k] > before[k]).collect();
             if brings.iter().any(|&k| met_before[k] < 12) && recipe.fits() {
                 brings.iter().for_each(|&k| met_before[k] += 1);
-                recorded.push(recipe.record(&Answer { undecided: ruled.undecided, ..b }, &short_ruled));
+                recorded.push(recipe.record(&Answer { undecided: ruled.undecided, trial: ruled.trial, ..b }, &short_ruled));
             }
         }
         for found in [&ours, &short] {

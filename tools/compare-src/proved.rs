@@ -64,15 +64,15 @@ pub struct Lent {
 }
 
 impl Lent {
-    pub const LONG: [usize; 3] = [14, 9, 2];
-    pub const SHORT: [usize; 3] = [7, 9, 2];
+    pub const LONG: [usize; 3] = [raw::MESSAGE, raw::WORDS, raw::FLOATS];
+    pub const SHORT: [usize; 3] = [raw::SHORT_MESSAGE, raw::WORDS, raw::FLOATS];
 
     pub fn zeros([message, words, floats]: [usize; 3]) -> Lent {
         Lent { message: vec![0; message], words: vec![0; words], floats: vec![0.0; floats] }
     }
     /// Where the number is not 0 the memory still holds the zeros that it was lent with.
     fn answer(&self, number: u32) -> Answer {
-        let [index, bit, phase, symbol, count, first, second, slicer, undecided] = self.words[..].try_into().unwrap();
+        let [index, bit, phase, symbol, count, first, second, slicer, undecided, trial] = self.words[..].try_into().unwrap();
         Answer {
             number,
             place: [bit, phase, symbol],
@@ -83,6 +83,7 @@ impl Lent {
             index,
             fraction: self.floats[1],
             undecided,
+            trial,
         }
     }
 }

@@ -147,7 +147,7 @@ impl Recipe {
         room && self.plants.iter().all(|p| p.start < 256)
     }
 
-    /// For crates/replay, 400 bytes, little-endian 32-bit words but for the strings: settings, index, seed, noise, scale, shape;
+    /// For crates/replay, 408 bytes, little-endian 32-bit words but for the strings: settings, index, seed, noise, scale, shape;
     /// four plants; two blanks, some of no sample; eight stores, some of them beyond the window; and what the long search and the short
     /// one answer.
     pub fn record(&self, long: &Answer, short: &Answer) -> Vec<u8> {
@@ -185,7 +185,7 @@ impl Recipe {
             a.place.iter().chain(&a.repairs).chain([&a.slicer]).for_each(|&w| out.extend((w as u32).to_le_bytes()));
             out.extend(a.message);
             out.extend([0; 2]);
-            [a.index as u32, (a.index >> 32) as u32, bits(a.cn0), bits(a.fraction), a.undecided as u32]
+            [a.index as u32, (a.index >> 32) as u32, bits(a.cn0), bits(a.fraction), a.undecided as u32, a.trial as u32]
                 .iter()
                 .for_each(|w| out.extend(w.to_le_bytes()));
         }

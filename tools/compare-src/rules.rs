@@ -70,7 +70,7 @@ impl Kind {
 }
 
 /// Where the number is not 0 the rest is zeros. Slicer 0 is coherent; repairs are their count and positions. A short message has the
-/// first 7 bytes, and zeros behind them. The last field counts the bits that were undecided when that slicer made them.
+/// first 7 bytes, and zeros behind them. Undecided are the bits that were so when that slicer made them. The trial is the one that passed.
 #[derive(Clone, Copy, Debug, Default)]
 pub struct Answer {
     pub number: u32,
@@ -82,6 +82,7 @@ pub struct Answer {
     pub index: u64,
     pub fraction: f32,
     pub undecided: u64,
+    pub trial: u64,
 }
 
 /// A float's bits, with one pattern for all NaNs.
@@ -94,9 +95,9 @@ impl Answer {
         Answer { number, ..Answer::default() }
     }
     /// Every field, floats by their bits.
-    pub fn fields(&self) -> (u32, [u64; 3], [u8; 14], [u64; 3], u64, u32, u64, u32, u64) {
+    pub fn fields(&self) -> (u32, [u64; 3], [u8; 14], [u64; 3], u64, u32, u64, u32, u64, u64) {
         let [cn0, fraction] = [self.cn0, self.fraction].map(bits);
-        (self.number, self.place, self.message, self.repairs, self.slicer, cn0, self.index, fraction, self.undecided)
+        (self.number, self.place, self.message, self.repairs, self.slicer, cn0, self.index, fraction, self.undecided, self.trial)
     }
     /// The same but for cn0.
     pub fn but_cn0(&self) -> Answer {
@@ -694,5 +695,6 @@ pub fn decode(t: &Tables, counts: &mut Counts, samples: &[f32], s: Settings, ind
         index: (index - 128 + start as u64).wrapping_add_signed(moves),
         fraction,
         undecided,
+        trial: u64::from(best.reading.trial),
     }
 }

@@ -5,27 +5,15 @@ use Rattle.outcomes.specs.Outcome.{Fixed, answer}
 use Rattle.outcomes.proofs.Law.{fixes, answer-set}
 use Rattle.choice.proofs.Told.{filteredUntold, filtered-back}
 use Rattle.choice.specs.Filtered.{filteredTold}
-use Rattle.choice.proofs.best.repairs_of as best-repairs-of
 use Rattle.choice.proofs.best.displaces as best-displaces
-use Rattle.choice.proofs.best.takes_over as best-takes-over
 use Rattle.choice.proofs.filter.filter_out_decode_candidate as filter-filter-out-decode-candidate
 use Rattle.choice.proofs.settings.check_settings as settings-check-settings
 use Rattle.choice.proofs.settings.check_index as settings-check-index
 
-pub best-repairs-of-fixed : Fixed best-repairs-of.ended (answer _) (λ M 𝓤 H. best-repairs-of.clauses 𝓤 H) (λ M 𝓤 H. best-repairs-of.spec 𝓤 H)
-best-repairs-of-fixed =
-    fixes best-repairs-of.ended _ (answer-set best-repairs-of.ended) refl (λ κs. refl)
-    (λ κs a r e. r) (λ κs a y. (y, (tt, tt))) (λ κs a r ws. refl)
-
 pub best-displaces-fixed : Fixed best-displaces.ended (answer _) (λ M 𝓤 H. best-displaces.clauses 𝓤 H) (λ M 𝓤 H. best-displaces.spec 𝓤 H)
 best-displaces-fixed =
     fixes best-displaces.ended _ (answer-set best-displaces.ended) refl (λ κs. refl)
-    (λ κs a r e. r) (λ κs a y. (y, (tt, (tt, tt)))) (λ κs a r ws. refl)
-
-pub best-takes-over-fixed : Fixed best-takes-over.ended (answer _) (λ M 𝓤 H. best-takes-over.clauses 𝓤 H) (λ M 𝓤 H. best-takes-over.spec 𝓤 H)
-best-takes-over-fixed =
-    fixes best-takes-over.ended _ (answer-set best-takes-over.ended) refl (λ κs. refl)
-    (λ κs a r e. r) (λ κs a y. (y, (tt, (tt, tt)))) (λ κs a r ws. refl)
+    (λ κs a r e. r) (λ κs a y. (y, (tt, (tt, (tt, (tt, tt)))))) (λ κs a r ws. refl)
 
 pub filter-filter-out-decode-candidate-fixed : Fixed filter-filter-out-decode-candidate.ended (answer _) (λ M 𝓤 H. filter-filter-out-decode-candidate.clauses 𝓤 H) (λ M 𝓤 H. filter-filter-out-decode-candidate.spec 𝓤 H)
 filter-filter-out-decode-candidate-fixed =

@@ -8,12 +8,12 @@ use Rattle.parts.proofs.Told.{sizeUntold, size-back}
 use Rattle.parts.specs.Part.{sizeTold}
 use Rattle.parts.proofs.symbols_refusal as parts-symbols-refusal
 use Rattle.parts.proofs.symbols_refusal_short as parts-symbols-refusal-short
-use Rattle.parts.proofs.symbols_for_place as parts-symbols-for-place
-use Rattle.parts.proofs.symbols_for_place_short as parts-symbols-for-place-short
+use Rattle.parts.proofs.symbols_for_location as parts-symbols-for-location
+use Rattle.parts.proofs.symbols_for_location_short as parts-symbols-for-location-short
 use Rattle.parts.proofs.samples_refusal as parts-samples-refusal
 use Rattle.parts.proofs.samples_refusal_short as parts-samples-refusal-short
-use Rattle.parts.proofs.samples_for_place as parts-samples-for-place
-use Rattle.parts.proofs.samples_for_place_short as parts-samples-for-place-short
+use Rattle.parts.proofs.samples_for_location as parts-samples-for-location
+use Rattle.parts.proofs.samples_for_location_short as parts-samples-for-location-short
 use Rattle.parts.proofs.slicer_refusal as parts-slicer-refusal
 use Rattle.parts.proofs.slicer_refusal_short as parts-slicer-refusal-short
 use Rattle.parts.proofs.part_size as parts-part-size
@@ -31,14 +31,14 @@ parts-symbols-refusal-short-fixed =
     fixes parts-symbols-refusal-short.ended _ (answer-set parts-symbols-refusal-short.ended) refl (λ κs. refl)
     (λ κs a r e. r) (λ κs a y. (y, (tt, (tt, tt)))) (λ κs a r ws. refl)
 
-pub parts-symbols-for-place-fixed : Fixed parts-symbols-for-place.ended (part _ _ (λ κs r. r)) (λ M 𝓤 H. parts-symbols-for-place.clauses 𝓤 H) (λ M 𝓤 H. parts-symbols-for-place.spec 𝓤 H)
-parts-symbols-for-place-fixed =
-    fixes parts-symbols-for-place.ended _ (λ κs. part-set (answer-set parts-symbols-for-place.ended κs)) refl (λ κs. refl)
+pub parts-symbols-for-location-fixed : Fixed parts-symbols-for-location.ended (part _ _ (λ κs r. r)) (λ M 𝓤 H. parts-symbols-for-location.clauses 𝓤 H) (λ M 𝓤 H. parts-symbols-for-location.spec 𝓤 H)
+parts-symbols-for-location-fixed =
+    fixes parts-symbols-for-location.ended _ (λ κs. part-set (answer-set parts-symbols-for-location.ended κs)) refl (λ κs. refl)
     (λ κs a r e. now r) (λ κs a y. (y, (tt, (tt, tt)))) (λ κs a r ws. refl)
 
-pub parts-symbols-for-place-short-fixed : Fixed parts-symbols-for-place-short.ended (part _ _ (λ κs r. r)) (λ M 𝓤 H. parts-symbols-for-place-short.clauses 𝓤 H) (λ M 𝓤 H. parts-symbols-for-place-short.spec 𝓤 H)
-parts-symbols-for-place-short-fixed =
-    fixes parts-symbols-for-place-short.ended _ (λ κs. part-set (answer-set parts-symbols-for-place-short.ended κs)) refl (λ κs. refl)
+pub parts-symbols-for-location-short-fixed : Fixed parts-symbols-for-location-short.ended (part _ _ (λ κs r. r)) (λ M 𝓤 H. parts-symbols-for-location-short.clauses 𝓤 H) (λ M 𝓤 H. parts-symbols-for-location-short.spec 𝓤 H)
+parts-symbols-for-location-short-fixed =
+    fixes parts-symbols-for-location-short.ended _ (λ κs. part-set (answer-set parts-symbols-for-location-short.ended κs)) refl (λ κs. refl)
     (λ κs a r e. now r) (λ κs a y. (y, (tt, (tt, tt)))) (λ κs a r ws. refl)
 
 pub parts-samples-refusal-fixed : Fixed parts-samples-refusal.ended (answer _) (λ M 𝓤 H. parts-samples-refusal.clauses 𝓤 H) (λ M 𝓤 H. parts-samples-refusal.spec 𝓤 H)
@@ -51,14 +51,14 @@ parts-samples-refusal-short-fixed =
     fixes parts-samples-refusal-short.ended _ (answer-set parts-samples-refusal-short.ended) refl (λ κs. refl)
     (λ κs a r e. r) (λ κs a y. (y, (tt, (tt, tt)))) (λ κs a r ws. refl)
 
-pub parts-samples-for-place-fixed : Fixed parts-samples-for-place.ended (part _ _ (λ κs r. r)) (λ M 𝓤 H. parts-samples-for-place.clauses 𝓤 H) (λ M 𝓤 H. parts-samples-for-place.spec 𝓤 H)
-parts-samples-for-place-fixed =
-    fixes parts-samples-for-place.ended _ (λ κs. part-set (answer-set parts-samples-for-place.ended κs)) refl (λ κs. refl)
+pub parts-samples-for-location-fixed : Fixed parts-samples-for-location.ended (part _ _ (λ κs r. r)) (λ M 𝓤 H. parts-samples-for-location.clauses 𝓤 H) (λ M 𝓤 H. parts-samples-for-location.spec 𝓤 H)
+parts-samples-for-location-fixed =
+    fixes parts-samples-for-location.ended _ (λ κs. part-set (answer-set parts-samples-for-location.ended κs)) refl (λ κs. refl)
     (λ κs a r e. now r) (λ κs a y. (y, (tt, (tt, tt)))) (λ κs a r ws. refl)
 
-pub parts-samples-for-place-short-fixed : Fixed parts-samples-for-place-short.ended (part _ _ (λ κs r. r)) (λ M 𝓤 H. parts-samples-for-place-short.clauses 𝓤 H) (λ M 𝓤 H. parts-samples-for-place-short.spec 𝓤 H)
-parts-samples-for-place-short-fixed =
-    fixes parts-samples-for-place-short.ended _ (λ κs. part-set (answer-set parts-samples-for-place-short.ended κs)) refl (λ κs. refl)
+pub parts-samples-for-location-short-fixed : Fixed parts-samples-for-location-short.ended (part _ _ (λ κs r. r)) (λ M 𝓤 H. parts-samples-for-location-short.clauses 𝓤 H) (λ M 𝓤 H. parts-samples-for-location-short.spec 𝓤 H)
+parts-samples-for-location-short-fixed =
+    fixes parts-samples-for-location-short.ended _ (λ κs. part-set (answer-set parts-samples-for-location-short.ended κs)) refl (λ κs. refl)
     (λ κs a r e. now r) (λ κs a y. (y, (tt, (tt, tt)))) (λ κs a r ws. refl)
 
 pub parts-slicer-refusal-fixed : Fixed parts-slicer-refusal.ended (answer _) (λ M 𝓤 H. parts-slicer-refusal.clauses 𝓤 H) (λ M 𝓤 H. parts-slicer-refusal.spec 𝓤 H)
@@ -84,9 +84,9 @@ parts-part-size-short-fixed =
 pub parts-slicer-part-fixed : Fixed parts-slicer-part.ended (part _ _ (λ κs r. r)) (λ M 𝓤 H. parts-slicer-part.clauses 𝓤 H) (λ M 𝓤 H. parts-slicer-part.spec 𝓤 H)
 parts-slicer-part-fixed =
     fixes parts-slicer-part.ended _ (λ κs. part-set (answer-set parts-slicer-part.ended κs)) refl (λ κs. refl)
-    (λ κs a r e. now r) (λ κs a y. (y, (tt, (tt, (tt, (tt, tt)))))) (λ κs a r ws. refl)
+    (λ κs a r e. now r) (λ κs a y. (y, (tt, (tt, (tt, tt))))) (λ κs a r ws. refl)
 
 pub parts-slicer-part-short-fixed : Fixed parts-slicer-part-short.ended (part _ _ (λ κs r. r)) (λ M 𝓤 H. parts-slicer-part-short.clauses 𝓤 H) (λ M 𝓤 H. parts-slicer-part-short.spec 𝓤 H)
 parts-slicer-part-short-fixed =
     fixes parts-slicer-part-short.ended _ (λ κs. part-set (answer-set parts-slicer-part-short.ended κs)) refl (λ κs. refl)
-    (λ κs a r e. now r) (λ κs a y. (y, (tt, (tt, (tt, (tt, tt)))))) (λ κs a r ws. refl)
+    (λ κs a r e. now r) (λ κs a y. (y, (tt, (tt, (tt, tt))))) (λ κs a r ws. refl)

@@ -3,7 +3,9 @@
 use mathlib.Core.Path.{refl, ap}
 use Rattle.outcomes.specs.Outcome.{Fixed, answer}
 use Rattle.outcomes.proofs.Law.{fixes, answer-set}
+use Rattle.place.proofs.Told.{neighbourUntold, neighbour-back}
 use Rattle.place.proofs.Told.{steppedUntold, stepped-back}
+use Rattle.place.specs.Agrees.{neighbourTold}
 use Rattle.place.specs.Step.{steppedTold}
 use Rattle.place.proofs.Place.at as Place-at
 use Rattle.place.proofs.Place.at_short as Place-at-short
@@ -15,6 +17,13 @@ use Rattle.place.proofs.Place.earlier as Place-earlier
 use Rattle.place.proofs.Place.earlier_short as Place-earlier-short
 use Rattle.place.proofs.Place.later as Place-later
 use Rattle.place.proofs.Place.later_short as Place-later-short
+use Rattle.place.proofs.location.Location.agrees as location-Location-agrees
+use Rattle.place.proofs.location.Location.refusal as location-Location-refusal
+use Rattle.place.proofs.location.Location.refusal_short as location-Location-refusal-short
+use Rattle.place.proofs.location.Location.earlier as location-Location-earlier
+use Rattle.place.proofs.location.Location.earlier_short as location-Location-earlier-short
+use Rattle.place.proofs.location.Location.later as location-Location-later
+use Rattle.place.proofs.location.Location.later_short as location-Location-later-short
 
 pub Place-at-fixed : Fixed Place-at.ended (answer _) (λ M 𝓤 H. Place-at.clauses 𝓤 H) (λ M 𝓤 H. Place-at.spec 𝓤 H)
 Place-at-fixed =
@@ -65,3 +74,38 @@ pub Place-later-short-fixed : Fixed Place-later-short.ended (answer _) (λ M �
 Place-later-short-fixed =
     fixes Place-later-short.ended _ (answer-set Place-later-short.ended) refl (λ κs. refl)
     (λ κs a r e. steppedTold r) (λ κs a y. (steppedUntold y, (tt, tt))) (λ κs a r ws. ap (λ x. (x, ws)) (stepped-back r))
+
+pub location-Location-agrees-fixed : Fixed location-Location-agrees.ended (answer _) (λ M 𝓤 H. location-Location-agrees.clauses 𝓤 H) (λ M 𝓤 H. location-Location-agrees.spec 𝓤 H)
+location-Location-agrees-fixed =
+    fixes location-Location-agrees.ended _ (answer-set location-Location-agrees.ended) refl (λ κs. refl)
+    (λ κs a r e. r) (λ κs a y. (y, (tt, tt))) (λ κs a r ws. refl)
+
+pub location-Location-refusal-fixed : Fixed location-Location-refusal.ended (answer _) (λ M 𝓤 H. location-Location-refusal.clauses 𝓤 H) (λ M 𝓤 H. location-Location-refusal.spec 𝓤 H)
+location-Location-refusal-fixed =
+    fixes location-Location-refusal.ended _ (answer-set location-Location-refusal.ended) refl (λ κs. refl)
+    (λ κs a r e. r) (λ κs a y. (y, (tt, tt))) (λ κs a r ws. refl)
+
+pub location-Location-refusal-short-fixed : Fixed location-Location-refusal-short.ended (answer _) (λ M 𝓤 H. location-Location-refusal-short.clauses 𝓤 H) (λ M 𝓤 H. location-Location-refusal-short.spec 𝓤 H)
+location-Location-refusal-short-fixed =
+    fixes location-Location-refusal-short.ended _ (answer-set location-Location-refusal-short.ended) refl (λ κs. refl)
+    (λ κs a r e. r) (λ κs a y. (y, (tt, tt))) (λ κs a r ws. refl)
+
+pub location-Location-earlier-fixed : Fixed location-Location-earlier.ended (answer _) (λ M 𝓤 H. location-Location-earlier.clauses 𝓤 H) (λ M 𝓤 H. location-Location-earlier.spec 𝓤 H)
+location-Location-earlier-fixed =
+    fixes location-Location-earlier.ended _ (answer-set location-Location-earlier.ended) refl (λ κs. refl)
+    (λ κs a r e. neighbourTold r) (λ κs a y. (neighbourUntold y, (tt, tt))) (λ κs a r ws. ap (λ x. (x, ws)) (neighbour-back r))
+
+pub location-Location-earlier-short-fixed : Fixed location-Location-earlier-short.ended (answer _) (λ M 𝓤 H. location-Location-earlier-short.clauses 𝓤 H) (λ M 𝓤 H. location-Location-earlier-short.spec 𝓤 H)
+location-Location-earlier-short-fixed =
+    fixes location-Location-earlier-short.ended _ (answer-set location-Location-earlier-short.ended) refl (λ κs. refl)
+    (λ κs a r e. neighbourTold r) (λ κs a y. (neighbourUntold y, (tt, tt))) (λ κs a r ws. ap (λ x. (x, ws)) (neighbour-back r))
+
+pub location-Location-later-fixed : Fixed location-Location-later.ended (answer _) (λ M 𝓤 H. location-Location-later.clauses 𝓤 H) (λ M 𝓤 H. location-Location-later.spec 𝓤 H)
+location-Location-later-fixed =
+    fixes location-Location-later.ended _ (answer-set location-Location-later.ended) refl (λ κs. refl)
+    (λ κs a r e. neighbourTold r) (λ κs a y. (neighbourUntold y, (tt, tt))) (λ κs a r ws. ap (λ x. (x, ws)) (neighbour-back r))
+
+pub location-Location-later-short-fixed : Fixed location-Location-later-short.ended (answer _) (λ M 𝓤 H. location-Location-later-short.clauses 𝓤 H) (λ M 𝓤 H. location-Location-later-short.spec 𝓤 H)
+location-Location-later-short-fixed =
+    fixes location-Location-later-short.ended _ (answer-set location-Location-later-short.ended) refl (λ κs. refl)
+    (λ κs a r e. neighbourTold r) (λ κs a y. (neighbourUntold y, (tt, tt))) (λ κs a r ws. ap (λ x. (x, ws)) (neighbour-back r))

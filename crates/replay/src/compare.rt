@@ -1,9 +1,10 @@
-// An answer against the one in a record: that of the long search stands from byte 264 on, that of the short one from byte 332 on.
+// An answer against the one in a record: that of the long search stands from byte 264 on, that of the short one from byte 336 on.
 use crate::record::long_word;
 use crate::record::word;
 use annex10::Repairs;
 use place::Place;
 use place::Slicer;
+use place::location::Location;
 use search::Answer;
 use search::ShortAnswer;
 use words::float::bits_of;
@@ -12,17 +13,15 @@ ghost use Prim.Native.Nat.{_≤_};
 // What the answers of either kind have beside the message.
 struct Fields {
     number: u32,
-    place: Place,
-    repairs: Repairs,
-    slicer: Slicer,
+    location: Location,
     cn0: f32,
     index: u64,
     fraction: f32,
     undecided: u32,
 }
 
-fn same_place(r: &[u8; 400], from: usize, p: Place) -> bool
-    requires { ⌜ from ≤ 332 ⌝ }
+fn same_place(r: &[u8; 408], from: usize, p: Place) -> bool
+    requires { ⌜ from ≤ 336 ⌝ }
 {
     if word(r, from + 4) as usize != p.bit {
         return false;
@@ -33,8 +32,8 @@ fn same_place(r: &[u8; 400], from: usize, p: Place) -> bool
     word(r, from + 12) as usize == p.symbol
 }
 
-fn same_words(r: &[u8; 400], from: usize, count: u32, first: u8, second: u8) -> bool
-    requires { ⌜ from ≤ 332 ⌝ }
+fn same_words(r: &[u8; 408], from: usize, count: u32, first: u8, second: u8) -> bool
+    requires { ⌜ from ≤ 336 ⌝ }
 {
     if word(r, from + 16) != count {
         return false;
@@ -45,8 +44,8 @@ fn same_words(r: &[u8; 400], from: usize, count: u32, first: u8, second: u8) -> 
     word(r, from + 24) == second as u32
 }
 
-fn same_repairs(r: &[u8; 400], from: usize, repairs: Repairs) -> bool
-    requires { ⌜ from ≤ 332 ⌝ }
+fn same_repairs(r: &[u8; 408], from: usize, repairs: Repairs) -> bool
+    requires { ⌜ from ≤ 336 ⌝ }
 {
     match repairs {
         Repairs::None => same_words(r, from, 0, 0, 0),
@@ -55,8 +54,8 @@ fn same_repairs(r: &[u8; 400], from: usize, repairs: Repairs) -> bool
     }
 }
 
-fn same_slicer(r: &[u8; 400], from: usize, slicer: Slicer) -> bool
-    requires { ⌜ from ≤ 332 ⌝ }
+fn same_slicer(r: &[u8; 408], from: usize, slicer: Slicer) -> bool
+    requires { ⌜ from ≤ 336 ⌝ }
 {
     match slicer {
         Slicer::Coherent => word(r, from + 28) == 0,
@@ -65,8 +64,8 @@ fn same_slicer(r: &[u8; 400], from: usize, slicer: Slicer) -> bool
 }
 
 // A record has room for 14 bytes.
-fn same_message(r: &[u8; 400], from: usize, message: &[u8]) -> bool
-    requires { ⌜ from ≤ 332 ⌝ }
+fn same_message(r: &[u8; 408], from: usize, message: &[u8]) -> bool
+    requires { ⌜ from ≤ 336 ⌝ }
 {
     if message.len() > 14 {
         return false;
@@ -80,53 +79,64 @@ fn same_message(r: &[u8; 400], from: usize, message: &[u8]) -> bool
     same
 }
 
-// 0 where every field is the same, else the first one that is not, from 1 on.
-fn difference(r: &[u8; 400], from: usize, message: &[u8], a: Fields) -> u32
-    requires { ⌜ from ≤ 332 ⌝ }
+// 0 where every part of the location is the same, else the first one that is not, from 2 on.
+fn location_difference(r: &[u8; 408], from: usize, l: Location) -> u32
+    requires { ⌜ from ≤ 336 ⌝ }
 {
-    let place = a.place;
-    let repairs = a.repairs;
-    let slicer = a.slicer;
-    if word(r, from) != a.number {
-        return 1;
-    }
+    let place = l.place;
+    let repairs = l.repairs;
+    let slicer = l.slicer;
     if !same_place(r, from, place) {
         return 2;
     }
-    if !same_message(r, from, message) {
+    if !same_repairs(r, from, repairs) {
         return 3;
     }
-    if !same_repairs(r, from, repairs) {
+    if !same_slicer(r, from, slicer) {
         return 4;
     }
-    if !same_slicer(r, from, slicer) {
+    if word(r, from + 68) != l.trial as u32 {
         return 5;
-    }
-    if word(r, from + 56) != bits_of(a.cn0) {
-        return 6;
-    }
-    if long_word(r, from + 48) != a.index {
-        return 7;
-    }
-    if word(r, from + 60) != bits_of(a.fraction) {
-        return 8;
-    }
-    if word(r, from + 64) != a.undecided {
-        return 9;
     }
     0
 }
 
-pub fn long_difference(r: &[u8; 400], a: Answer) -> u32 {
-    let place = a.place;
+// 0 where every field is the same, else the first one that is not, from 1 on.
+fn difference(r: &[u8; 408], from: usize, message: &[u8], a: Fields) -> u32
+    requires { ⌜ from ≤ 336 ⌝ }
+{
+    let location = a.location;
+    if word(r, from) != a.number {
+        return 1;
+    }
+    let part = location_difference(r, from, location);
+    if part != 0 {
+        return part;
+    }
+    if !same_message(r, from, message) {
+        return 6;
+    }
+    if word(r, from + 56) != bits_of(a.cn0) {
+        return 7;
+    }
+    if long_word(r, from + 48) != a.index {
+        return 8;
+    }
+    if word(r, from + 60) != bits_of(a.fraction) {
+        return 9;
+    }
+    if word(r, from + 64) != a.undecided {
+        return 10;
+    }
+    0
+}
+
+pub fn long_difference(r: &[u8; 408], a: Answer) -> u32 {
+    let location = a.location;
     let message = a.message;
-    let repairs = a.repairs;
-    let slicer = a.slicer;
     let fields = Fields {
         number: a.number,
-        place,
-        repairs,
-        slicer,
+        location,
         cn0: a.cn0,
         index: a.index,
         fraction: a.fraction,
@@ -135,34 +145,31 @@ pub fn long_difference(r: &[u8; 400], a: Answer) -> u32 {
     difference(r, 264, &message, fields)
 }
 
-pub fn short_difference(r: &[u8; 400], a: ShortAnswer) -> u32 {
-    let place = a.place;
+pub fn short_difference(r: &[u8; 408], a: ShortAnswer) -> u32 {
+    let location = a.location;
     let message = a.message;
-    let repairs = a.repairs;
-    let slicer = a.slicer;
     let fields = Fields {
         number: a.number,
-        place,
-        repairs,
-        slicer,
+        location,
         cn0: a.cn0,
         index: a.index,
         fraction: a.fraction,
         undecided: a.undecided,
     };
-    difference(r, 332, &message, fields)
+    difference(r, 336, &message, fields)
 }
 
 pub fn print_field(field: u32) {
     match field {
         1 => io::write_all(1, b"number"),
         2 => io::write_all(1, b"place"),
-        3 => io::write_all(1, b"message"),
-        4 => io::write_all(1, b"repairs"),
-        5 => io::write_all(1, b"slicer"),
-        6 => io::write_all(1, b"cn0"),
-        7 => io::write_all(1, b"index"),
-        8 => io::write_all(1, b"fraction"),
+        3 => io::write_all(1, b"repairs"),
+        4 => io::write_all(1, b"slicer"),
+        5 => io::write_all(1, b"trial"),
+        6 => io::write_all(1, b"message"),
+        7 => io::write_all(1, b"cn0"),
+        8 => io::write_all(1, b"index"),
+        9 => io::write_all(1, b"fraction"),
         _ => io::write_all(1, b"undecided"),
     }
     ;

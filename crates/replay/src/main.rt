@@ -1,6 +1,6 @@
 // Replays the answers that the Rust gave, with the logarithm of the rules and trial 4's slip mended, and those of the rules, written down a
-// second time, for short messages and undecided bits. Standard input holds their count, and for each how its window is made and what was
-// answered (tools/compare --record wrote it).
+// second time, for short messages, undecided bits and trials. Standard input holds their count, and for each how its window is made and
+// what was answered (tools/compare --record wrote it).
 mod compare;
 mod make;
 mod record;
@@ -17,7 +17,7 @@ use search::BothAnswers;
 use search::Settings;
 use words::float::float_of;
 
-fn decoded(r: &[u8; 400], samples: &[f32; 2310]) -> BothAnswers {
+fn decoded(r: &[u8; 408], samples: &[f32; 2310]) -> BothAnswers {
     decode_both(
         samples,
         Settings {
@@ -48,7 +48,7 @@ fn met(k: u32, short: bool, field: u32) -> bool {
 }
 
 // Whether the record is met, by both searches.
-fn replay(r: &[u8; 400], k: u32) -> bool {
+fn replay(r: &[u8; 408], k: u32) -> bool {
     let samples = window(r);
     let both = decoded(r, &samples);
     let long = both.long;
@@ -61,8 +61,8 @@ fn replay(r: &[u8; 400], k: u32) -> bool {
 }
 
 fn replay_next(k: u32) -> bool {
-    let mut r = [0u8; 400];
-    if io::read_full(0, &mut r) != 400 {
+    let mut r = [0u8; 408];
+    if io::read_full(0, &mut r) != 408 {
         io::write_all(1, b"the list is too short\n");
         return false;
     }

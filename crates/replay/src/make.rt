@@ -23,14 +23,14 @@ fn put_noise(x: &mut [f32; 2310], seed: u32, noise: f32) {
 }
 
 // Bit j of the string from a byte of the record on.
-fn bit(r: &[u8; 400], from: usize, j: usize) -> u8
+fn bit(r: &[u8; 408], from: usize, j: usize) -> u8
     requires { ⌜ (from ≤ 298) × (j < 112) ⌝ }
 {
     (r[from + j / 8] >> (7 - j % 8)) & 1
 }
 
 // What symbol n of a plant is to be, re for part 0. By real part it says the first string, by norm the second.
-fn target(r: &[u8; 400], plant: usize, n: usize, part: usize) -> f32
+fn target(r: &[u8; 408], plant: usize, n: usize, part: usize) -> f32
     requires { ⌜ (plant < 4) × (n < 224) ⌝ }
 {
     let at = 40 + 36 * plant;
@@ -54,7 +54,7 @@ fn target(r: &[u8; 400], plant: usize, n: usize, part: usize) -> f32
     0.0
 }
 
-fn start_of(r: &[u8; 400], plant: usize) -> usize
+fn start_of(r: &[u8; 408], plant: usize) -> usize
     requires { ⌜ plant < 4 ⌝ }
     ensures { λ s. ⌜ s < 256 ⌝ }
 {
@@ -79,7 +79,7 @@ fn put_symbol(x: &mut [f32; 2310], at: usize, full: bool, value: f32)
     add(x, at + 2, value);
 }
 
-fn put_plant(x: &mut [f32; 2310], r: &[u8; 400], plant: usize, full: bool, part: usize)
+fn put_plant(x: &mut [f32; 2310], r: &[u8; 408], plant: usize, full: bool, part: usize)
     requires { ⌜ (plant < 4) × (part ≤ 1) ⌝ }
 {
     let start = start_of(r, plant);
@@ -94,7 +94,7 @@ fn put_plant(x: &mut [f32; 2310], r: &[u8; 400], plant: usize, full: bool, part:
 }
 
 // Four plants at four samples that follow one another: symbol n of each.
-fn put_four(x: &mut [f32; 2310], r: &[u8; 400], n: usize, at: usize, part: usize)
+fn put_four(x: &mut [f32; 2310], r: &[u8; 408], n: usize, at: usize, part: usize)
     requires { ⌜ (n < 224) × (at < 2297) ⌝ }
 {
     let a = target(r, 0, n, part);
@@ -107,7 +107,7 @@ fn put_four(x: &mut [f32; 2310], r: &[u8; 400], n: usize, at: usize, part: usize
     x[at + 12] = (x[at + 4] + d) - c;
 }
 
-fn put_row(x: &mut [f32; 2310], r: &[u8; 400], part: usize)
+fn put_row(x: &mut [f32; 2310], r: &[u8; 408], part: usize)
     requires { ⌜ part ≤ 1 ⌝ }
 {
     let start = start_of(r, 0);
@@ -116,7 +116,7 @@ fn put_row(x: &mut [f32; 2310], r: &[u8; 400], part: usize)
     }
 }
 
-fn put_part(x: &mut [f32; 2310], r: &[u8; 400], part: usize)
+fn put_part(x: &mut [f32; 2310], r: &[u8; 408], part: usize)
     requires { ⌜ part ≤ 1 ⌝ }
 {
     let shape = word(r, 36);
@@ -156,13 +156,13 @@ fn store(x: &mut [f32; 2310], at: u32, bits: u32) {
     }
 }
 
-fn put_stores(x: &mut [f32; 2310], r: &[u8; 400]) {
+fn put_stores(x: &mut [f32; 2310], r: &[u8; 408]) {
     for m in 0..8 {
         store(x, word(r, 200 + 8 * m), word(r, 204 + 8 * m));
     }
 }
 
-pub fn window(r: &[u8; 400]) -> [f32; 2310] {
+pub fn window(r: &[u8; 408]) -> [f32; 2310] {
     let mut x = [0.0f32; 2310];
     put_noise(&mut x, word(r, 24), float_of(word(r, 28)));
     put_part(&mut x, r, 0);

@@ -197,22 +197,25 @@ fn print_floats(cn0: f32, fraction: f32) {
 fn print_answer(a: Answer) {
     io::write_all(STDOUT_FILENO, b"decoded");
     print_word(a.number as u64);
-    let place = a.place;
+    let location = a.location;
+    let place = location.place;
     print_word(place.bit as u64);
     print_word(place.phase as u64);
     print_word(place.symbol as u64);
     io::write_all(STDOUT_FILENO, b" ");
     let bytes = a.message;
     print_message(bytes);
-    let repairs = a.repairs;
+    let repairs = location.repairs;
     print_repairs(repairs);
-    let slicer = a.slicer;
+    let slicer = location.slicer;
     print_slicer(slicer);
     print_floats(a.cn0, a.fraction);
     io::write_all(STDOUT_FILENO, b" index");
     print_word(a.index);
     io::write_all(STDOUT_FILENO, b" undecided");
     print_word(a.undecided as u64);
+    io::write_all(STDOUT_FILENO, b" trial");
+    print_word(wide(location.trial));
     io::write_all(STDOUT_FILENO, b"\n");
 }
 

@@ -2,7 +2,7 @@
  *
  * Every function is proved to answer its definition, whatever it is given (docs/CONTRACTS.md names each). It keeps no state, takes
  * nothing from the heap and calls nothing but memcpy, memmove and memset, so that any number of threads may call it. A decode takes
- * some 49 KiB of stack, and one of both kinds some 58 KiB: 49,448 and 59,016 bytes at most as it was measured for x86-64, and for
+ * some 49 KiB of stack, and one of both kinds some 58 KiB: 49,320 and 59,096 bytes at most as it was measured for x86-64, and for
  * Arm, before undecided bits were counted, 48,672 and 58,384; tools/stack measures it.
  *
  * A slice is a pointer and a length, in elements. The library checks every length itself and refuses a wrong one. What it cannot

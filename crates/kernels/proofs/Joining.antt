@@ -17,7 +17,7 @@ use lib.Ieee.{Float}
 use Rattle.lists.specs.From.{tabulate}
 use Rattle.lists.specs.Bits.{value, packed}
 use Rattle.lists.proofs.Table.{Where, where-more, length-tabulate, getD-tabulate, tabulate-is}
-use Rattle.lists.proofs.Bits.{value-lt, value-split}
+use Rattle.lists.proofs.Bits.{value-lt, value-split, value-same}
 use Rattle.place.specs.declared.Slicer.{Slicer}
 use Rattle.kernels.specs.Slices.{slicedBit, markBit, sliced, marks, streamsOf, marksOf}
 use Rattle.kernels.specs.Inner.{measuresOf, bitsInTurn, marksInTurn, apartOf, joined, bytesOf}
@@ -44,12 +44,6 @@ bytes-made n bits l a p q r = r ∙ rw (l, q, p, a)
 -- tables that agree at every place
 same : (n : ℕ) (f g : ℕ → ℕ) → ((k : ℕ) → k < n → f k ≡ g k) → tabulate n f ≡ tabulate n g
 same n f g each = tabulate-is 0 g n (tabulate n f) (length-tabulate n f) (λ k h. getD-tabulate n f k 0 h ∙ each k h)
-
--- numbers of the same bits
-value-same : (f g : ℕ → ℕ) (i j n : ℕ) → ((m : ℕ) → m < n → f (i + m) ≡ g (j + m)) → value f i n ≡ value g j n
-unfolding value
-value-same f g i j zero each = refl
-value-same f g i j (suc n) each = rw (value-same f g i j n (λ m l. each m (omega arith)), each n (omega arith))
 
 module _ (f : ℕ → ℕ) (bit : (i : ℕ) → f i < 2) where
   -- two numbers side by side are one of twice as many bits

@@ -65,13 +65,19 @@ byte-bits bs n i (suc m) e q =
     rw (a, b, byte-bits bs n i m (suc e) (omega arith), pow-suc 2 e, ← div-div-eq-div-mul, pow-suc 2 m)
     (sym (mod-mul (getD bs n 0 / 2 ^ e) (pow-pos m) (lit< tt)))
 
+-- numbers of the same bits, wherever these stand
+pub value-same : (f g : ℕ → ℕ) (i j n : ℕ) → ((m : ℕ) → m < n → f (i + m) ≡ g (j + m)) → value f i n ≡ value g j n
+unfolding value
+value-same f g i j zero each = refl
+value-same f g i j (suc n) each = rw (value-same f g i j n (λ m l. each m (omega arith)), each n (omega arith))
+
 -- the bits that stand o later
 pub value-later : (f : ℕ → ℕ) (o j n : ℕ) → value (λ (i : ℕ). f (o + i)) j n ≡ value f (o + j) n
-unfolding value
-value-later f o j zero = refl
-value-later f o j (suc n) =
-    let a : o + (j + n) ≡ o + j + n = omega arith in
-    rw (value-later f o j n, a)
+value-later f o j n =
+    value-same (λ (i : ℕ). f (o + i)) f j (o + j) n
+    (λ m l.
+    let a : o + (j + m) ≡ o + j + m = omega arith in
+    rw a)
 
 -- eight bits from bit o of byte n on
 pub byte-whole : (bs : List ℕ) (n : ℕ) → getD bs n 0 < 256 → getD bs n 0 ≡ value (bitAt bs) (8 * n) 8

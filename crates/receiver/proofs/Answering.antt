@@ -1,10 +1,9 @@
 -- What `try_decode` answers, for long messages.
 --     try-opened     which calls are taken
---     streams-long, known-long   what the six trials rest on
 --     by-none, by-one, by-two    what clears a remainder
 -- Assumes nothing.
 use mathlib.Core.Path.{_≡_, refl, sym, _∙_}
-use mathlib.Core.Bool.{Bool, true, false, not, cond}
+use mathlib.Core.Bool.{Bool, true, false, cond}
 use mathlib.Core.List.{List}
 use mathlib.Core.Logic.{_≢_}
 use Prim.Native.Nat.{ℕ, _≤_}
@@ -12,7 +11,6 @@ use native.Mathlib.Omega.{arith}
 use borrow.Author.Tests.{eqb-true, ne-eqb}
 use lib.Dec.{eqb, leb}
 use lib.ListN.{length}
-use Rattle.annex10.specs.Remainder.{remainder}
 use Rattle.annex10.specs.Repair.{fitting, clearing}
 use Rattle.annex10.specs.Any.{clearingAny}
 use Rattle.annex10.specs.declared.Found.{Found}
@@ -23,10 +21,7 @@ use Rattle.annex10.proofs.Repairing.{pattern-none}
 use Rattle.place.specs.declared.Place.{Place}
 use Rattle.place.specs.All.{listed}
 use Rattle.place.proofs.Within.{listed-gives}
-use Rattle.streams.specs.Streams.{messageAt}
-use Rattle.search.specs.Kinds.{long}
 use Rattle.receiver.specs.Tries.{tryNumber}
-use Rattle.receiver.specs.Inner.{Streams, Finds, Known}
 
 module _ (level : ℕ) (coherent noncoherent : List ℕ) (p : Place) where
   pub record TryTaken : Type 0 where
@@ -62,14 +57,3 @@ module _ (crc : ℕ) where
   pub by-two : {f g : Found} → crc ≢ 0 → f ≡ clearing 14 1 crc → f ≡ Nothing → g ≡ clearing 14 2 crc → g ≡ clearingAny 14 crc
   unfolding clearingAny
   by-two h e n g = g ∙ rw (none-by-none h, ← e, n)
-
-pub streams-long : {c d : List ℕ} {bit : ℕ} → length c ≡ 18 → length d ≡ 18 → bit ≤ 32 → Streams long c d bit
-unfolding long
-streams-long a b h = record { first = record { size = a; low = h }; second = record { size = b; low = h } }
-
-pub known-long : {level : ℕ} {coherent noncoherent : List ℕ} {bit : ℕ} {c d : Found} {apart : Bool}
-    → Finds long level (remainder (messageAt coherent 14 bit)) c → Finds long level (remainder (messageAt noncoherent 14 bit)) d
-    → apart ≡ not (eqb (remainder (messageAt coherent 14 bit)) (remainder (messageAt noncoherent 14 bit)))
-    → Known long level coherent noncoherent bit c d apart
-unfolding long
-known-long f g e = record { first = f; second = g; differ = e }

@@ -48,7 +48,7 @@ use Rattle.search.specs.Choice.{candidate, dropped, survivor, candidateAt, scan
 use Rattle.search.specs.Window.{Window, unmarked}
 use Rattle.search.specs.Kinds.{Kind, long, short}
 use Rattle.search.specs.Seen.{row, stream, bitsAt, promptAt, noiseAt, windowOf, seen}
-use Rattle.receiver.specs.Inner.{Scanned, Ready, heldOf, Finds, foundBy, Streams, Known, seenAt}
+use Rattle.receiver.specs.Inner.{Scanned, Ready, heldOf, Finds, foundBy, Lane, Known, seenAt}
 use Rattle.receiver.proofs.EitherKind.{Right}
 
 pub record Sizes (k : Kind) (coherent noncoherent crcs others : List ℕ) : Type 0 where
@@ -192,17 +192,25 @@ crc-at k r slicer samples p h =
 -- ---- what the code lends: i is 576
 
 module _ (k : Kind) (right : Right k) (samples symbols : List Float) (coherent noncoherent crcs others : List ℕ) (ready : Ready k samples symbols coherent noncoherent crcs others)
-    (p : Place) (h : listed (k .last) p ≡ true) {first second : List ℕ}
-    (a : first ≡ laneBytes coherent (4 * p .symbol + p .phase)) (b : second ≡ laneBytes noncoherent (4 * p .symbol + p .phase)) where
+    (p : Place) (h : listed (k .last) p ≡ true) where
+  abbrev lane : ℕ
+  lane = 4 * p .symbol + p .phase
+
+  abbrev first : List ℕ
+  first = laneBytes coherent lane
+
+  abbrev second : List ℕ
+  second = laneBytes noncoherent lane
+
   first-is : first ≡ stream samples Coherent p
   first-is =
       let l = listed-gives (k .last) p h in
-      a ∙ ap (λ (x : List ℕ). laneBytes x (4 * p .symbol + p .phase)) (ready .scanned .first) ∙ stream-lane Coherent samples p (omega (arith, l .phase)) (omega (arith, l .symbol))
+      ap (λ (x : List ℕ). laneBytes x lane) (ready .scanned .first) ∙ stream-lane Coherent samples p (omega (arith, l .phase)) (omega (arith, l .symbol))
 
   second-is : second ≡ stream samples Noncoherent p
   second-is =
       let l = listed-gives (k .last) p h in
-      b ∙ ap (λ (x : List ℕ). laneBytes x (4 * p .symbol + p .phase)) (ready .scanned .second) ∙ stream-lane Noncoherent samples p (omega (arith, l .phase)) (omega (arith, l .symbol))
+      ap (λ (x : List ℕ). laneBytes x lane) (ready .scanned .second) ∙ stream-lane Noncoherent samples p (omega (arith, l .phase)) (omega (arith, l .symbol))
 
   pub lent-read : (s : Settings) (i : ℕ) {x : Survivor} → i ≡ 576
       → x ≡ heldOf k (candidateAt k s (seenAt k samples (take i (drop (576 * p .phase) symbols)) first second) p)
@@ -212,15 +220,11 @@ module _ (k : Kind) (right : Right k) (samples symbols : List Float) (coherent n
       let r : take i (drop (576 * p .phase) symbols) ≡ row samples (p .phase) = rw (z, ready .sums) in
       e ∙ rw (r, first-is, second-is) (ap (heldOf k) (seen-there k samples p s))
 
-  pub lent-streams : Streams k first second (p .bit)
-  unfolding laneBytes packed
-  lent-streams =
+  pub lent-lane : Lane k coherent noncoherent lane (p .bit)
+  lent-lane =
       let l = listed-gives (k .last) p h in
-      let e : p .bit ≤ 144 - 8 * k .bytes = omega (arith, l .to, right .last) in
-      record {
-        first = record { size = ap length a ∙ length-tabulate 18 _; low = e };
-        second = record { size = ap length b ∙ length-tabulate 18 _; low = e };
-      }
+      let z = scanned-sizes k samples coherent noncoherent crcs others (ready .scanned) in
+      record { first = z .first; second = z .second; low = omega (arith, l .phase, l .symbol); ends = omega (arith, l .to, right .last) }
 
   -- i is where the remainders stand; x and y are the codes of what clears them
   pub lent-known : (level i x y : ℕ) {c d : Found} {apart : Bool} → i ≡ sampleStart p - 8

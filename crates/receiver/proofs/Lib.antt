@@ -3,6 +3,7 @@ pub mod Looking
 pub mod Prompting
 pub mod Trying
 pub mod Turns
+pub mod ByLane
 pub mod Answering
 pub mod Weighing
 pub mod Counted

@@ -1,10 +1,11 @@
--- One trial as the code makes it: what is found, and the header check at a bit offset of a stream.
+-- One trial as the code makes it: what is found, and the header check of a message's first byte.
 --     lookup-missed    nothing is found: the trial fails
 --     lookup-found     positions are found: the trial passes exactly if the header check says so
+--     same-checked     a trial looks at no more of a message than its first byte
 -- Assumes nothing.
-use mathlib.Core.Path.{_≡_, sym, ap, _∙_, subst}
+use mathlib.Core.Path.{_≡_, refl, sym, ap, _∙_, subst}
 use mathlib.Core.Bool.{Bool, true, false, cond}
-use mathlib.Core.List.{List}
+use mathlib.Core.List.{List, [], _∷_}
 use Prim.Native.Nat.{ℕ, _<_}
 use native.Mathlib.Omega.{arith}
 use borrow.Author.Tests.{eq-eqb, ne-eqb}
@@ -12,7 +13,7 @@ use lib.Dec.{eqb}
 use lib.ListN.{length, getD}
 use Rattle.lists.specs.Told.{done}
 use Rattle.lists.proofs.Telling.{same-values, not-done}
-use Rattle.annex10.specs.Repair.{count, inside}
+use Rattle.annex10.specs.Repair.{count, inside, repairedHead}
 use Rattle.annex10.specs.Any.{only}
 use Rattle.annex10.specs.declared.Repairs.{Repairs}
 use Rattle.annex10.specs.declared.Found.{Found}
@@ -24,16 +25,11 @@ use Rattle.mode_s.specs.Header.{validityTold, headerOf}
 use Rattle.place.specs.declared.Place.{Place}
 use Rattle.place.specs.declared.Slicer.{Slicer}
 use Rattle.place.specs.declared.location.Location.{Location}
-use Rattle.streams.specs.Streams.{messageAt}
-use Rattle.streams.specs.Headers.{validityAt}
-use Rattle.streams.proofs.Reading.{message-length}
-use Rattle.streams.proofs.Heading.{validity-done}
 use Rattle.search.specs.declared.Tried.{Tried}
 use Rattle.search.specs.declared.Tried.the-variants.{Pass, Fail}
 use Rattle.search.specs.Kinds.{Kind}
 use Rattle.search.specs.Trials.{checked}
-use Rattle.receiver.specs.Inner.{Stream, foundInside}
-use Rattle.receiver.proofs.EitherKind.{Right}
+use Rattle.receiver.specs.Inner.{foundInside}
 
 -- what a trial makes of a header check
 abbrev pub passIf : Validity → Location → Tried
@@ -55,6 +51,15 @@ checked-head k p m number slicer ρ v h e g =
     let r : Location = record { place = p; trial = number; slicer = slicer; repairs = ρ } in
     passed v r (rw e at g) ∙ ap (λ (b : ℕ). cond (k .header b) (Pass r) Fail) (sym (head-is m ρ h))
 
+-- no more is looked at
+pub same-checked : (k : Kind) (p : Place) (m : List ℕ) (number : ℕ) (slicer : Slicer) (f : Found) {byte : ℕ} → 0 < length m → byte ≡ getD m 0 0
+    → checked k p number slicer (byte ∷ []) f ≡ checked k p number slicer m f
+unfolding checked
+same-checked k p m number slicer Nothing h e = refl
+same-checked k p m number slicer (At ρ) {byte} h e =
+    let r : Location = record { place = p; trial = number; slicer = slicer; repairs = ρ } in
+    ap (λ (b : ℕ). cond (k .header b) (Pass r) Fail) (head-is (byte ∷ []) ρ (omega arith) ∙ ap (λ (b : ℕ). repairedHead b ρ) e ∙ sym (head-is m ρ h))
+
 -- what is found, if it is n positions
 pub only-hit : (f : Found) {ρ : Repairs} (n : ℕ) {k : ℕ} → f ≡ At ρ → k ≡ count ρ → n ≡ k → At ρ ≡ only f n
 only-hit f n {k} e q h = rw e (rw (eq-eqb n _ (h ∙ q)))
@@ -71,15 +76,13 @@ only-inside k (At σ) n {ρ} h e = go (eqb n (count σ)) e
     go true q = let s : σ ≡ ρ = cc in subst (λ (x : Repairs). inside (k .bytes) x ≡ true) s h
     go false q = not-there q
 
-module _ (k : Kind) (w : Right k) (stream : List ℕ) (p : Place) (number : ℕ) (slicer : Slicer) (n : ℕ) (o : Found) {f : Found} (e : f ≡ only o n) where
-  pub lookup-missed : f ≡ Nothing → Fail ≡ checked k p number slicer (messageAt stream (k .bytes) (p .bit)) (only o n)
+module _ (k : Kind) (p : Place) (number : ℕ) (slicer : Slicer) (byte n : ℕ) (o : Found) {f : Found} (e : f ≡ only o n) where
+  pub lookup-missed : f ≡ Nothing → Fail ≡ checked k p number slicer (byte ∷ []) (only o n)
   unfolding checked
   lookup-missed z = rw (← e, z)
 
-  pub lookup-found : {ρ : Repairs} (v : Validity) → Stream k stream (p .bit) → foundInside k o ≡ true → f ≡ At ρ
-      → validityTold v ≡ validityAt (k .bytes) (k .header) stream (p .bit) ρ
-      → passIf v (record { place = p; trial = number; slicer = slicer; repairs = ρ }) ≡ checked k p number slicer (messageAt stream (k .bytes) (p .bit)) (only o n)
-  lookup-found {ρ} v s i z g =
+  pub lookup-found : {ρ : Repairs} (v : Validity) → foundInside k o ≡ true → f ≡ At ρ → validityTold v ≡ headerOf (k .bytes) (k .header) byte ρ
+      → passIf v (record { place = p; trial = number; slicer = slicer; repairs = ρ }) ≡ checked k p number slicer (byte ∷ []) (only o n)
+  lookup-found {ρ} v i z g =
       let q : only o n ≡ At ρ = sym e ∙ z in
-      let l : 0 < length (messageAt stream (k .bytes) (p .bit)) = rw (message-length stream (k .bytes) (p .bit)) (omega (arith, w .low)) in
-      rw q (checked-head k p (messageAt stream (k .bytes) (p .bit)) number slicer ρ v l (only-inside k o n i q) (g ∙ validity-done (k .bytes) (k .header) stream (p .bit) ρ (s .size) (s .low)))
+      rw q (checked-head k p (byte ∷ []) number slicer ρ v (omega arith) (only-inside k o n i q) g)

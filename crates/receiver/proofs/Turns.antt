@@ -1,15 +1,17 @@
 -- Six trials one after the other are the reading.
 --     in-turn         a trial counts only where none before it passed: the last holds the first that passed
 --     reading-by      with what clears the messages' own remainders, as far as the level asks, the reading is that of the search
+--     reading-first   of the two messages the first bytes are enough
 --     any-finds       what clears a remainder is that at every level
 -- Assumes nothing.
 use mathlib.Core.Path.{_≡_, refl, sym, ap, _∙_}
 use mathlib.Core.Bool.{Bool, true, false, _&&_, not}
 use mathlib.Core.List.{List, [], _∷_}
-use Prim.Native.Nat.{ℕ}
+use Prim.Native.Nat.{ℕ, _<_}
 use native.Mathlib.Omega.{arith}
 use borrow.Author.Tests.{leb-true}
 use lib.Dec.{leb, eqb}
+use lib.ListN.{length, getD}
 use Rattle.annex10.specs.Remainder.{remainder}
 use Rattle.annex10.specs.Any.{clearingAny, only}
 use Rattle.annex10.specs.declared.Found.{Found}
@@ -27,6 +29,7 @@ use Rattle.search.specs.Kinds.{Kind, long}
 use Rattle.search.specs.Trials.{checked, cleared, given, sixTrials, differ, trials, first, reading}
 use Rattle.search.proofs.Staging.{unasked, swap}
 use Rattle.receiver.specs.Inner.{foundInside, Finds, orTry}
+use Rattle.receiver.proofs.Trying.{same-checked}
 
 one-by-one : (x1 x2 x3 x4 x5 x6 : Tried) {t1 t2 t3 t4 t5 t6 : Tried}
     → t1 ≡ orTry Fail x1 → t2 ≡ orTry t1 x2 → t3 ≡ orTry t2 x3 → t4 ≡ orTry t3 x4 → t5 ≡ orTry t4 x5 → t6 ≡ orTry t5 x6
@@ -112,6 +115,24 @@ module _ (kind : Kind) (level : ℕ) (p : Place) (coherent noncoherent : List �
         asked 2 5 Coherent coherent f,
         within (not (eqb (remainder coherent) (remainder noncoherent))) 2 6 Noncoherent noncoherent g,
       )
+
+-- of the two messages the trials have their first bytes
+pub reading-first : (kind : Kind) (level : ℕ) (p : Place) (coherent noncoherent : List ℕ) {a b : ℕ} {c d : Found} {apart : Bool} {t : Tried}
+    → 0 < length coherent → 0 < length noncoherent → a ≡ getD coherent 0 0 → b ≡ getD noncoherent 0 0
+    → Finds kind level (remainder coherent) c → Finds kind level (remainder noncoherent) d → apart ≡ not (eqb (remainder coherent) (remainder noncoherent))
+    → t ≡ first (sixTrials kind level p (a ∷ []) (b ∷ []) (only c) (only d) apart) → t ≡ reading kind level p coherent noncoherent
+unfolding sixTrials
+reading-first kind level p coherent noncoherent {a} {b} {c} {d} h g ea eb f e s et =
+    et
+    ∙ rw (
+      same-checked kind p coherent 1 Coherent (only c 0) h ea,
+      same-checked kind p noncoherent 2 Noncoherent (only d 0) g eb,
+      same-checked kind p coherent 3 Coherent (only c 1) h ea,
+      same-checked kind p noncoherent 4 Noncoherent (only d 1) g eb,
+      same-checked kind p coherent 5 Coherent (only c 2) h ea,
+      same-checked kind p noncoherent 6 Noncoherent (only d 2) g eb,
+    )
+    (reading-by kind level p coherent noncoherent f e s)
 
 -- what clears a remainder is known at every level
 any-inside : (r : ℕ) → foundInside long (clearingAny 14 r) ≡ true

@@ -1,11 +1,12 @@
 -- The surviving reading of a place, step by step as the code finds it.
 --     candidate-is              a reading with its message, power and cn0
 --     kept, gone                what the filter leaves
---     few-kept                  fewer than two repairs are not dropped, whatever the distance
+--     few-kept, coherent-kept   what is not dropped whatever the distance: fewer than two repairs; or dropped all the same
+--     survived                  what survives of a trial that passed
 --     filter-is                 the filter, for settings that are taken
 --     level-low, most-level     their level is at most 2, and that of a kind at most its most
 --     reading-at, reading-taken, reading-few    what a reading is
---     read-pass, read-fail      what survives
+--     read-pass, read-fail      what survives of the trials
 -- Assumes nothing.
 use mathlib.Core.Path.{_≡_, refl, ap, _∙_}
 use mathlib.Core.Bool.{Bool, true, false, _&&_, cond}
@@ -24,6 +25,8 @@ use Rattle.lists.specs.Told.{done, refused}
 use Rattle.lists.proofs.Telling.{same-values, not-done}
 use Rattle.annex10.specs.Repair.{count, repaired}
 use Rattle.place.specs.declared.Place.{Place}
+use Rattle.place.specs.declared.Slicer.{Slicer}
+use Rattle.place.specs.declared.Slicer.the-variants.{Coherent, Noncoherent}
 use Rattle.place.specs.declared.location.Location.{Location}
 use Rattle.place.specs.Step.{within}
 use Rattle.place.specs.Agrees.{locationNumber}
@@ -31,6 +34,7 @@ use Rattle.place.proofs.Within.{within-gives}
 use Rattle.parts.specs.Part.{symbolsAt, samplesAt, chosen}
 use Rattle.kernels.specs.Powers.{powerOf, noiseOf}
 use Rattle.streams.specs.Streams.{messageAt}
+use Rattle.streams.specs.Distances.{differing}
 use Rattle.cn0.specs.Estimate.{cn0Of}
 use Rattle.search.specs.declared.Settings.{Settings}
 use Rattle.search.specs.declared.Tried.{Tried}
@@ -82,6 +86,15 @@ few-kept : (s : Settings) (m n : ℕ) (c : Candidate) → count (c .location .re
 unfolding dropped
 few-kept s m n c h = rw (ne-eqb (count (c .location .repairs)) 2 h)
 
+-- nor does the distance matter to a coherent reading
+coherent-kept : (s : Settings) (m n : ℕ) (c : Candidate) → c .location .slicer ≡ Coherent → dropped s m c ≡ dropped s n c
+unfolding dropped
+coherent-kept s m n c e = rw e
+
+chosen-again : (slicer : Slicer) (a b : List ℕ) → chosen slicer a (chosen slicer a b) ≡ chosen slicer a b
+chosen-again Coherent a b = refl
+chosen-again Noncoherent a b = refl
+
 -- the room of a message plays no part
 wide-kept : (k : Kind) (b : Bool) (c : Candidate) → survivorOf long (cond b none (some (wide k c))) ≡ heldOf k (cond b none (some c))
 wide-kept k true c = refl
@@ -106,6 +119,44 @@ module _ (k : Kind) (w : Right k) (samples row : List Float) (coherent noncohere
   unfolding candidate seenAt
   candidate-is l eb em ep en ex = rw (ex, ep, en, em, eb)
 
+  -- ---- the stream of a slicer that is not named plays no part
+
+  abbrev named : Location → List ℕ
+  named l = chosen (l .slicer) coherent noncoherent
+
+  named-candidate : (l : Location) → candidate (seenAt k samples row coherent (named l)) l ≡ candidate there l
+  unfolding candidate seenAt
+  named-candidate l = rw (chosen-again (l .slicer) coherent noncoherent)
+
+  -- in how many bits of a long message a stream differs from the coherent one
+  abbrev apartFrom : List ℕ → Location → ℕ
+  apartFrom stream l = differing (messageAt coherent 14 (l .place .bit)) (messageAt stream 14 (l .place .bit)) 112
+
+  named-dropped : (s : Settings) (l : Location) (a : Candidate) → a .location ≡ l → dropped s (apartFrom (named l) l) a ≡ dropped s (apartFrom noncoherent l) a
+  named-dropped s l a e = go (l .slicer) (ap (λ (x : Location). x .slicer) e)
+    where
+      go : (slicer : Slicer) → a .location .slicer ≡ slicer → dropped s (apartFrom (chosen slicer coherent noncoherent) l) a ≡ dropped s (apartFrom noncoherent l) a
+      go Coherent q = coherent-kept s (apartFrom coherent l) (apartFrom noncoherent l) a q
+      go Noncoherent q = refl
+
+  -- ---- what survives of a trial that passed
+  pub survived : (s : Settings) (l : Location) {a : Candidate} {x : Survivor} → (count (l .repairs) ≡ 2 → apartFrom noncoherent l ≡ there .distance (l .place))
+      → a ≡ wide k (candidate (seenAt k samples row coherent (named l)) l)
+      → x ≡ survivorOf long (cond (dropped s (apartFrom (named l) (a .location)) a) none (some a)) → x ≡ heldOf k (survivor s there (T.Pass l))
+  unfolding survivor candidate
+  survived s l {a} d ea ex =
+      let e : a ≡ wide k (candidate there l) = ea ∙ ap (wide k) (named-candidate l) in
+      let same : a .location ≡ l = ap (λ (c : Candidate). c .location) ea in
+      ex ∙ ap (λ (y : Location). survivorOf long (cond (dropped s (apartFrom (named l) y) a) none (some a))) same
+      ∙ ap (λ (b : Bool). survivorOf long (cond b none (some a))) (named-dropped s l a same)
+      ∙ rw (e, there-dropped) (wide-kept k (dropped s (there .distance (l .place)) (candidate there l)) (candidate there l))
+    where
+      there-dropped : dropped s (apartFrom noncoherent l) (wide k (candidate there l)) ≡ dropped s (there .distance (l .place)) (candidate there l)
+      there-dropped = elim (ℕ-discrete (count (l .repairs)) 2) [
+        | yes h ↦ ap (λ (i : ℕ). dropped s i (wide k (candidate there l))) (d h) ∙ wide-dropped k s (there .distance (l .place)) (candidate there l)
+        | no h ↦ wide-dropped k s (apartFrom noncoherent l) (candidate there l) ∙ few-kept s (apartFrom noncoherent l) (there .distance (l .place)) (candidate there l) h
+      ]
+
   module _ (p : Place) where
     -- ---- the trials
 
@@ -128,18 +179,9 @@ module _ (k : Kind) (w : Right k) (samples row : List Float) (coherent noncohere
       abbrev level : ℕ
       level = min (s .level) (k .most)
 
-      pub read-pass : {l : Location} {a : Candidate} {x : Survivor} (m : ℕ) → (count (l .repairs) ≡ 2 → m ≡ there .distance (l .place))
-          → read level ≡ T.Pass l → a ≡ wide k (candidate there l)
-          → x ≡ survivorOf long (cond (dropped s m a) none (some a)) → x ≡ heldOf k (candidateAt k s there p)
-      unfolding candidateAt survivor seenAt candidate
-      read-pass {l} m d e ea ex =
-          rw e (ex ∙ rw (ea, there-dropped) (wide-kept k (dropped s (there .distance (l .place)) (candidate there l)) (candidate there l)))
-        where
-          there-dropped : dropped s m (wide k (candidate there l)) ≡ dropped s (there .distance (l .place)) (candidate there l)
-          there-dropped = elim (ℕ-discrete (count (l .repairs)) 2) [
-            | yes h ↦ ap (λ (i : ℕ). dropped s i (wide k (candidate there l))) (d h) ∙ wide-dropped k s (there .distance (l .place)) (candidate there l)
-            | no h ↦ wide-dropped k s m (candidate there l) ∙ few-kept s m (there .distance (l .place)) (candidate there l) h
-          ]
+      pub read-pass : {l : Location} {x : Survivor} → read level ≡ T.Pass l → x ≡ heldOf k (survivor s there (T.Pass l)) → x ≡ heldOf k (candidateAt k s there p)
+      unfolding candidateAt seenAt
+      read-pass e ex = rw e ex
 
       pub read-fail : {x : Survivor} → read level ≡ T.Fail → x ≡ survivorOf long none → x ≡ heldOf k (candidateAt k s there p)
       unfolding candidateAt survivor seenAt

@@ -209,6 +209,13 @@ pub record Streams (k : Kind) (coherent noncoherent : List ℕ) (bit : ℕ) : Ty
   pub first : Stream k coherent bit
   pub second : Stream k noncoherent bit
 
+-- the bits by starting sample of both slicers, a lane of them, and a bit offset at which a message ends within it
+pub record Lane (k : Kind) (coherent noncoherent : List ℕ) (lane bit : ℕ) : Type 0 where
+  pub first : length coherent ≡ 1152
+  pub second : length noncoherent ≡ 1152
+  pub low : lane < 8
+  pub ends : bit ≤ 144 - 8 * k .bytes
+
 -- positions that are found lie in a message
 abbrev pub foundInside : Kind → Found → Bool
 foundInside k Nothing = true

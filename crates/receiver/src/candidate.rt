@@ -1,6 +1,9 @@
-// The surviving reading of a place, from the row and the streams of its clock phase and symbol offset.
+// The surviving reading of a place, from the row of its clock phase and the lane in which it lies.
 use crate::kinds::bytes_of;
 use crate::kinds::level_of;
+use crate::lanes::first_of;
+use crate::lanes::lane_of;
+use crate::lanes::named_lane;
 use crate::message::message_from_location;
 use crate::powers::both_powers;
 use crate::six::try_six;
@@ -23,17 +26,19 @@ use streams::distance::compute_hamming_distance;
 ghost use mathlib.Core.Path.{_≡_};
 ghost use mathlib.Core.Bool.{true, cond};
 ghost use mathlib.Core.Option.{none, some};
-ghost use Prim.Native.Nat.{min};
+ghost use Prim.Native.Nat.{_≤_, min};
 ghost use lib.ListN.{length};
 ghost use Rattle.annex10.specs.Repair.{count};
 ghost use Rattle.place.specs.Step.{within};
 ghost use Rattle.place.specs.Agrees.{locationNumber};
 ghost use Rattle.streams.specs.Streams.{messageAt};
 ghost use Rattle.streams.specs.Distances.{differing};
-ghost use Rattle.search.specs.Choice.{candidate, dropped, candidateAt};
+ghost use Rattle.scan.specs.Lanes.{laneBytes};
+ghost use Rattle.search.specs.declared.Tried.the-variants.{Pass};
+ghost use Rattle.search.specs.Choice.{candidate, dropped, survivor, candidateAt};
 ghost use Rattle.search.specs.Kinds.{long};
 ghost use Rattle.search.specs.Answers.{settingsNumber, nowhere, noCandidate, survivorOf};
-ghost use Rattle.receiver.specs.Inner.{Streams, Known, kindOf, seenAt, wide, heldOf};
+ghost use Rattle.receiver.specs.Inner.{Streams, Lane, Known, kindOf, seenAt, wide, heldOf};
 
 // Zeros: the location of a refusal.
 pub fn nowhere() -> Location
@@ -143,29 +148,63 @@ fn survives(s: Settings, coherent: &[u8], noncoherent: &[u8], c: Candidate) -> S
     }
 }
 
-// The surviving reading of a place: c and d are what clears its two messages, apart whether their remainders differ.
-pub fn read_streams<'a>(
+// What survives of a trial that passed. Only now the streams are made, and of them the noncoherent one only where its slicer is named.
+fn read_location(
     kind: MessageKind,
     samples: &[f32],
     row: &[f32],
-    coherent: &'a [u8],
-    noncoherent: &'a [u8],
+    coherent: &[u8],
+    noncoherent: &[u8],
+    lane: usize,
+    s: Settings,
+    location: Location,
+) -> Survivor
+    requires { ⌜ (length (now samples) ≡ 2310) × (length (now row) ≡ 576) × Lane (kindOf kind) (now coherent) (now noncoherent) lane (location .place .bit) × (settingsNumber s ≡ 0) × (locationNumber (kindOf kind .bytes) location ≡ 0) × (count (location .repairs) ≤ min (s .level) (kindOf kind .most)) ⌝ }
+    ensures { λ r. ⌜ r ≡ heldOf (kindOf kind) (survivor s (seenAt (kindOf kind) (now (samples .entry)) (now (row .entry)) (laneBytes (now (coherent .entry)) lane) (laneBytes (now (noncoherent .entry)) lane)) (Pass location)) ⌝ }
+{
+    let slicer = location.slicer;
+    let first = lane_of(coherent, lane);
+    let second = named_lane(slicer, first, noncoherent, lane);
+    survives(
+        s,
+        &first,
+        &second,
+        candidate_of(kind, samples, row, &first, &second, location),
+    )
+}
+
+// The surviving reading of a place: c and d are what clears its two messages, apart whether their remainders differ. The trials ask for no more
+// than the first bytes of the two.
+pub fn read_lane(
+    kind: MessageKind,
+    samples: &[f32],
+    row: &[f32],
+    coherent: &[u8],
+    noncoherent: &[u8],
+    lane: usize,
     s: Settings,
     place: Place,
     c: Found,
     d: Found,
     apart: bool,
 ) -> Survivor
-    requires { ⌜ (length (now samples) ≡ 2310) × (length (now row) ≡ 576) × Streams (kindOf kind) (now coherent) (now noncoherent) (place .bit) × (within (kindOf kind .bytes) place ≡ true) × (settingsNumber s ≡ 0) × Known (kindOf kind) (min (s .level) (kindOf kind .most)) (now coherent) (now noncoherent) (place .bit) c d apart ⌝ }
-    ensures { λ r. ⌜ r ≡ heldOf (kindOf kind) (candidateAt (kindOf kind) s (seenAt (kindOf kind) (now (samples .entry)) (now (row .entry)) (now (coherent .entry)) (now (noncoherent .entry))) place) ⌝ }
+    requires { ⌜ (length (now samples) ≡ 2310) × (length (now row) ≡ 576) × Lane (kindOf kind) (now coherent) (now noncoherent) lane (place .bit) × (within (kindOf kind .bytes) place ≡ true) × (settingsNumber s ≡ 0) × Known (kindOf kind) (min (s .level) (kindOf kind .most)) (laneBytes (now coherent) lane) (laneBytes (now noncoherent) lane) (place .bit) c d apart ⌝ }
+    ensures { λ r. ⌜ r ≡ heldOf (kindOf kind) (candidateAt (kindOf kind) s (seenAt (kindOf kind) (now (samples .entry)) (now (row .entry)) (laneBytes (now (coherent .entry)) lane) (laneBytes (now (noncoherent .entry)) lane)) place) ⌝ }
 {
     let level = level_of(kind, s.level);
-    match try_six(kind, level, coherent, noncoherent, place, c, d, apart) {
-        Tried::Pass(location) => survives(
-            s,
+    let start = 8 * place.bit + lane;
+    let first = first_of(coherent, start);
+    let second = first_of(noncoherent, start);
+    match try_six(kind, level, first, second, place, c, d, apart) {
+        Tried::Pass(location) => read_location(
+            kind,
+            samples,
+            row,
             coherent,
             noncoherent,
-            candidate_of(kind, samples, row, coherent, noncoherent, location),
+            lane,
+            s,
+            location,
         ),
         Tried::Fail => nothing(),
     }

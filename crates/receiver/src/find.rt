@@ -1,6 +1,6 @@
 // The search over the places that were let through.
 use crate::candidate::nothing;
-use crate::candidate::read_streams;
+use crate::candidate::read_lane;
 use crate::codes::bit_errors_by;
 use crate::kinds::numbered;
 use crate::undecided::counted;
@@ -9,7 +9,6 @@ use choice::best::displaces;
 use mode_s::message::MessageKind;
 use place::Place;
 use place::Stepped;
-use scan::stream::find_stream;
 use search::Settings;
 use search::Survivor;
 ghost use mathlib.Core.Path.{_≡_};
@@ -20,25 +19,14 @@ ghost use lib.ListN.{length, getD, take};
 ghost use Rattle.place.specs.Step.{sampleStart};
 ghost use Rattle.place.specs.All.{listed, placeAt};
 ghost use Rattle.place.specs.Agrees.{locationNumber};
-ghost use Rattle.scan.specs.Lanes.{laneBytes};
 ghost use Rattle.search.specs.Choice.{candidateAt};
 ghost use Rattle.search.specs.Seen.{seen};
 ghost use Rattle.search.specs.Window.{unmarked};
 ghost use Rattle.search.specs.Answers.{settingsNumber};
 ghost use Rattle.receiver.specs.Inner.{Ready, Finds, kindOf, foundBy, Listing, heldOf, takesOver, chosenSurvivor, countedIn, over};
 
-// The stream of a lane.
-fn lane_of(bits: &[u8], lane: usize) -> [u8; 18]
-    requires { ⌜ (length (now bits) ≡ 1152) × (lane < 8) ⌝ }
-    ensures { λ r. ⌜ r ≡ laneBytes (now (bits .entry)) lane ⌝ }
-{
-    let mut out = [0u8; 18];
-    find_stream(bits, lane, &mut out);
-    out
-}
-
-// The surviving reading of a place. Its row of symbols is lent and its two streams are made here; c and d are the codes of what clears
-// its two messages. Undecided bits are not counted.
+// The surviving reading of a place. Its row of symbols is lent; c and d are the codes of what clears its two messages. Undecided bits are not
+// counted.
 pub fn read_at(
     kind: MessageKind,
     samples: &[f32],
@@ -60,16 +48,15 @@ pub fn read_at(
     let i = 8 * place.bit + lane - 8;
     let crc = crcs[i];
     let other = others[i];
-    let first = lane_of(coherent, lane);
-    let second = lane_of(noncoherent, lane);
     let from = 576 * phase;
     let to = from + 576;
-    read_streams(
+    read_lane(
         kind,
         samples,
         &symbols[from..to],
-        &first,
-        &second,
+        coherent,
+        noncoherent,
+        lane,
         s,
         place,
         bit_errors_by(crc, c),

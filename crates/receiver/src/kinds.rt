@@ -1,6 +1,8 @@
 // Where the two kinds of message part: each function here asks one of two others. All else is one body for both.
 use annex10::Repairs;
 use mode_s::header::Validity;
+use mode_s::header::header_is_valid;
+use mode_s::header::header_is_valid_short;
 use mode_s::message::MessageKind;
 use mode_s::message::ModeSMessage;
 use parts::samples_for_location;
@@ -18,16 +20,13 @@ use scan::list::list_exact;
 use scan::list::list_exact_short;
 use sieve::find_repairable;
 use sieve::find_repairable_short;
-use streams::header::df_is_valid_acquisition_squitter;
-use streams::header::df_is_valid_extended_squitter;
 ghost use mathlib.Core.Path.{_≡_};
 ghost use Prim.Native.Nat.{_*_, min};
-ghost use Rattle.mode_s.specs.Header.{validityTold};
+ghost use Rattle.mode_s.specs.Header.{validityTold, headerOf};
 ghost use Rattle.place.specs.Step.{steppedTold};
 ghost use Rattle.place.specs.All.{listed, listedAt};
 ghost use Rattle.place.specs.Agrees.{locationNumber, neighbourTold, earlierLocation, laterLocation};
 ghost use Rattle.parts.specs.Part.{symbolsFor, samplesFor};
-ghost use Rattle.streams.specs.Headers.{validityAt};
 ghost use Rattle.repairs.specs.Codes.{codesUpToInto};
 ghost use Rattle.scan.specs.Exact.{exactInto};
 ghost use Rattle.sieve.specs.Repairable.{repairableInto};
@@ -118,13 +117,13 @@ pub fn samples_part(kind: MessageKind, samples: &[f32], location: Location) -> &
     }
 }
 
-// The header of the message at a bit offset, repaired.
-pub fn header_at(kind: MessageKind, stream: &[u8], bit: usize, repairs: Repairs) -> Validity
-    ensures { λ r. ⌜ validityTold r ≡ validityAt (kindOf kind .bytes) (kindOf kind .header) (now (stream .entry)) bit repairs ⌝ }
+// The header of a message by its first byte, repaired.
+pub fn header_of(kind: MessageKind, first: u8, repairs: Repairs) -> Validity
+    ensures { λ r. ⌜ validityTold r ≡ headerOf (kindOf kind .bytes) (kindOf kind .header) first repairs ⌝ }
 {
     match kind {
-        MessageKind::Long => df_is_valid_extended_squitter(stream, bit, repairs),
-        MessageKind::Short => df_is_valid_acquisition_squitter(stream, bit, repairs),
+        MessageKind::Long => header_is_valid(first, repairs),
+        MessageKind::Short => header_is_valid_short(first, repairs),
     }
 }
 

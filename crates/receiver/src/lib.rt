@@ -4,6 +4,7 @@ mod codes;
 pub mod decode;
 mod find;
 mod kinds;
+mod lanes;
 mod message;
 mod narrow;
 mod powers;

@@ -1,4 +1,4 @@
-// The six trials at a place of two streams, where what clears the two messages is known.
+// The six trials at a place, where what clears the two messages is known.
 use crate::trial::then_try;
 use annex10::Found;
 use mode_s::message::MessageKind;
@@ -6,10 +6,11 @@ use place::Place;
 use place::Slicer;
 use search::Tried;
 ghost use mathlib.Core.Path.{_≡_};
-ghost use mathlib.Core.Bool.{_&&_};
-ghost use Rattle.streams.specs.Streams.{messageAt};
-ghost use Rattle.search.specs.Trials.{reading};
-ghost use Rattle.receiver.specs.Inner.{Streams, Known, kindOf};
+ghost use mathlib.Core.Bool.{true, _&&_};
+ghost use mathlib.Core.List.{[], _∷_};
+ghost use Rattle.annex10.specs.Any.{only};
+ghost use Rattle.search.specs.Trials.{first, sixTrials};
+ghost use Rattle.receiver.specs.Inner.{kindOf, foundInside};
 
 fn both(a: bool, b: bool) -> bool
     ensures { λ r. ⌜ r ≡ a && b ⌝ }
@@ -20,19 +21,20 @@ fn both(a: bool, b: bool) -> bool
     false
 }
 
-// The first of the six that passes: c and d are what clears the two messages, apart whether their remainders differ.
+// The first of the six that passes. Of the two messages the first bytes are given; c and d are what clears them, apart whether their remainders
+// differ.
 pub fn try_six(
     kind: MessageKind,
     level: u32,
-    coherent: &[u8],
-    noncoherent: &[u8],
+    coherent: u8,
+    noncoherent: u8,
     place: Place,
     c: Found,
     d: Found,
     apart: bool,
 ) -> Tried
-    requires { ⌜ Streams (kindOf kind) (now coherent) (now noncoherent) (place .bit) × Known (kindOf kind) level (now coherent) (now noncoherent) (place .bit) c d apart ⌝ }
-    ensures { λ r. ⌜ r ≡ reading (kindOf kind) level place (messageAt (now (coherent .entry)) (kindOf kind .bytes) (place .bit)) (messageAt (now (noncoherent .entry)) (kindOf kind .bytes) (place .bit)) ⌝ }
+    requires { ⌜ (foundInside (kindOf kind) c ≡ true) × (foundInside (kindOf kind) d ≡ true) ⌝ }
+    ensures { λ r. ⌜ r ≡ first (sixTrials (kindOf kind) level place (coherent ∷ []) (noncoherent ∷ []) (only c) (only d) apart) ⌝ }
 {
     let three = level >= 1;
     let four = both(three, apart);

@@ -1,5 +1,5 @@
 // One trial: the positions that are found, and the header of the message that they repair.
-use crate::kinds::header_at;
+use crate::kinds::header_of;
 use annex10::Found;
 use annex10::repairs_of;
 use mode_s::header::Validity;
@@ -10,10 +10,10 @@ use place::location::Location;
 use search::Tried;
 ghost use mathlib.Core.Path.{_≡_};
 ghost use mathlib.Core.Bool.{true};
+ghost use mathlib.Core.List.{[], _∷_};
 ghost use Rattle.annex10.specs.Any.{only};
-ghost use Rattle.streams.specs.Streams.{messageAt};
 ghost use Rattle.search.specs.Trials.{checked, given};
-ghost use Rattle.receiver.specs.Inner.{Stream, kindOf, foundInside, orTry};
+ghost use Rattle.receiver.specs.Inner.{kindOf, foundInside, orTry};
 
 // What is found, if it is n positions.
 fn only(found: Found, n: u32) -> Found
@@ -28,23 +28,23 @@ fn only(found: Found, n: u32) -> Found
     Found::Nothing
 }
 
-// The message at a place of a stream with n positions repaired, those that clear it being given.
+// The message at a place with n positions repaired, those that clear it being given: of the message only the first byte is looked at.
 fn try_one(
     kind: MessageKind,
     number: u8,
     slicer: Slicer,
-    stream: &[u8],
+    first: u8,
     place: Place,
     found: Found,
     n: u32,
 ) -> Tried
-    requires { ⌜ Stream (kindOf kind) (now stream) (place .bit) × (foundInside (kindOf kind) found ≡ true) ⌝ }
-    ensures { λ r. ⌜ r ≡ checked (kindOf kind) place number slicer (messageAt (now (stream .entry)) (kindOf kind .bytes) (place .bit)) (only found n) ⌝ }
+    requires { ⌜ foundInside (kindOf kind) found ≡ true ⌝ }
+    ensures { λ r. ⌜ r ≡ checked (kindOf kind) place number slicer (first ∷ []) (only found n) ⌝ }
 {
     let Found::At(repairs) = only(found, n) else {
         return Tried::Fail;
     };
-    match header_at(kind, stream, place.bit, repairs) {
+    match header_of(kind, first, repairs) {
         Validity::Valid => Tried::Pass(Location {
             place,
             trial: number,
@@ -64,13 +64,13 @@ pub fn then_try(
     made: bool,
     number: u8,
     slicer: Slicer,
-    stream: &[u8],
+    first: u8,
     place: Place,
     found: Found,
     n: u32,
 ) -> Tried
-    requires { ⌜ Stream (kindOf kind) (now stream) (place .bit) × (foundInside (kindOf kind) found ≡ true) ⌝ }
-    ensures { λ r. ⌜ r ≡ orTry before (given made (checked (kindOf kind) place number slicer (messageAt (now (stream .entry)) (kindOf kind .bytes) (place .bit)) (only found n))) ⌝ }
+    requires { ⌜ foundInside (kindOf kind) found ≡ true ⌝ }
+    ensures { λ r. ⌜ r ≡ orTry before (given made (checked (kindOf kind) place number slicer (first ∷ []) (only found n))) ⌝ }
 {
     let Tried::Fail = before else {
         return before;
@@ -78,5 +78,5 @@ pub fn then_try(
     if !made {
         return Tried::Fail;
     }
-    try_one(kind, number, slicer, stream, place, found, n)
+    try_one(kind, number, slicer, first, place, found, n)
 }

@@ -9,9 +9,10 @@ use repairs::single_bit_error_from_crc24;
 use search::Tried;
 use streams::crc::Crc;
 use streams::crc::compute_crc;
+use streams::message::extract_message;
 ghost use mathlib.Core.Path.{_≡_};
 ghost use Prim.Native.Nat.{_≤_};
-ghost use lib.ListN.{length};
+ghost use lib.ListN.{length, getD};
 ghost use Rattle.annex10.specs.Remainder.{remainder};
 ghost use Rattle.annex10.specs.Any.{clearingAny};
 ghost use Rattle.streams.specs.Streams.{messageAt};
@@ -51,6 +52,15 @@ fn crc_at(stream: &[u8], bit: usize) -> u32
     }
 }
 
+fn first_at(stream: &[u8], bit: usize) -> u8
+    requires { ⌜ (length (now stream) ≡ 18) × (bit ≤ 32) ⌝ }
+    ensures { λ r. ⌜ r ≡ getD (messageAt (now (stream .entry)) 14 bit) 0 0 ⌝ }
+{
+    let message = extract_message(stream, bit);
+    let bytes = message.bytes;
+    bytes[0]
+}
+
 // What clears a remainder: no position, else one, else two.
 fn bit_errors(crc: u32) -> Found
     ensures { λ r. ⌜ r ≡ clearingAny 14 crc ⌝ }
@@ -77,16 +87,14 @@ pub fn try_decode(level: u32, coherent: &[u8], noncoherent: &[u8], place: Place)
     let bit = place.bit;
     let c = crc_at(coherent, bit);
     let d = crc_at(noncoherent, bit);
-    let first = bit_errors(c);
-    let second = bit_errors(d);
     Attempt::Is(try_six(
         MessageKind::Long,
         level,
-        coherent,
-        noncoherent,
+        first_at(coherent, bit),
+        first_at(noncoherent, bit),
         place,
-        first,
-        second,
+        bit_errors(c),
+        bit_errors(d),
         c != d,
     ))
 }

@@ -1,11 +1,12 @@
--- What `find_stream` answers. Lane t is the stream of clock phase t % 4 and symbol offset t / 4: the bits that start with samples t, t + 8, ..
+-- What `find_stream` and `find_first_byte` answer. Lane t is the stream of clock phase t % 4 and symbol offset t / 4: the bits that start with samples t, t + 8, ..
 -- Assumes nothing.
 use mathlib.Core.Bool.{cond}
 use mathlib.Core.List.{List}
 use Prim.Native.Nat.{ℕ, _+_, _*_, _%_}
 use lib.Dec.{eqb, leb}
 use lib.ListN.{length, getD}
-use Rattle.lists.specs.Bits.{packed}
+use Rattle.lists.specs.Bits.{value, packed}
+use Rattle.scan.specs.declared.stream.FirstByte.{FirstByte}
 
 -- bit j of lane t: of a number that is no bit the lowest
 unfoldable pub laneBit : List ℕ → ℕ → ℕ → ℕ
@@ -24,3 +25,15 @@ laneInto bits t out =
     (7, out))
     (3, out))
     (2, out)
+
+-- the first byte of the message that starts with sample p
+unfoldable pub byteFrom : List ℕ → ℕ → ℕ
+byteFrom bits p = value (laneBit bits p) 0 8
+
+-- 1,152 bits, else 2; the last bit of the byte is one of them, else 7
+unfoldable pub firstByte : List ℕ → ℕ → FirstByte
+firstByte bits p =
+    cond (eqb (length bits) 1152)
+    (cond (leb p 1095) (record { number = 0; byte = byteFrom bits p })
+    (record { number = 7; byte = 0 }))
+    (record { number = 2; byte = 0 })

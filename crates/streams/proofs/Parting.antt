@@ -14,6 +14,7 @@ use lib.ListN.{length, take, drop, replicate}
 use lib.Seq.{getD-take, getD-drop}
 use Rattle.lists.specs.Bits.{bitAt, value, packed}
 use Rattle.lists.proofs.Table.{tabulate-is, length-tabulate, getD-tabulate}
+use Rattle.lists.proofs.Bits.{value-same}
 use Rattle.lists.specs.Told.{Told, tell}
 use Rattle.parts.specs.Part.{partSize, sizeAt}
 use Rattle.streams.specs.Streams.{messageAt, sizedNumber, partNumber}
@@ -28,17 +29,11 @@ bit-part s a m j h =
     let l : j / 8 < m = omega arith in
     rw (getD-take, getD-drop, q, r)
 
--- runs of equal bits have the same value
-same-value : (f g : ℕ → ℕ) (j n : ℕ) → ((i : ℕ) → i < n → f (j + i) ≡ g (j + i)) → value f j n ≡ value g j n
-unfolding value
-same-value f g j zero h = refl
-same-value f g j (suc n) h = rw (same-value f g j n (λ i l. h i (omega arith)), h n (omega arith))
-
 pub same-packed : (n : ℕ) (f g : ℕ → ℕ) → ((i : ℕ) → i < 8 * n → f i ≡ g i) → packed n f ≡ packed n g
 unfolding packed
 same-packed n f g h =
     tabulate-is 0 (λ (k : ℕ). value g (8 * k) 8) n _ (length-tabulate n _)
-    (λ k l. getD-tabulate n (λ (i : ℕ). value f (8 * i) 8) k 0 l ∙ same-value f g (8 * k) 8 (λ i m. h (8 * k + i) (omega arith)))
+    (λ k l. getD-tabulate n (λ (i : ℕ). value f (8 * i) 8) k 0 l ∙ value-same f g (8 * k) (8 * k) 8 (λ i m. h (8 * k + i) (omega arith)))
 
 pub message-part : (s : List ℕ) (n m bit : ℕ) → bit % 8 + 8 * n ≤ 8 * m → messageAt (take m (drop (bit / 8) s)) n (bit % 8) ≡ messageAt s n bit
 unfolding messageAt

@@ -1,7 +1,6 @@
--- `receiver::six::try_six` meets its contract: six trials one after the other are the reading.
+-- `receiver::six::try_six` meets its contract: six trials one after the other, and the first that passes.
 -- Assumes nothing.
-use mathlib.Core.Path.{_∙_}
-use Rattle.receiver.proofs.Turns.{in-turn, reading-by}
+use Rattle.receiver.proofs.Turns.{in-turn}
 use borrow.Author.Needs.{needs}
 use Rattle.receiver.proofs.six.try_six.Statement.{statement}
 use Rattle.receiver.proofs.six.try_six.Tie as tie
@@ -13,26 +12,25 @@ both-requires-2 : tie.Need-both-requires-2
 both-requires-2 c κs = search needs
 
 then-try-requires : tie.Need-then-try-requires
-then-try-requires c κs = let s = c .before .before .before .before in (s .pre .0 .first, s .pre .1 .first .lies)
+then-try-requires c κs = c .before .before .pre .0
 
 then-try-requires-2 : tie.Need-then-try-requires-2
-then-try-requires-2 c κs = let s = c .before .before .before .before .before in (s .pre .0 .second, s .pre .1 .second .lies)
+then-try-requires-2 c κs = c .before .before .before .pre .1
 
 then-try-requires-3 : tie.Need-then-try-requires-3
-then-try-requires-3 c κs = let s = c .before .before .before .before .before .before in (s .pre .0 .first, s .pre .1 .first .lies)
+then-try-requires-3 c κs = c .before .before .before .before .pre .0
 
 then-try-requires-4 : tie.Need-then-try-requires-4
-then-try-requires-4 c κs = let s = c .before .before .before .before .before .before .before in (s .pre .0 .second, s .pre .1 .second .lies)
+then-try-requires-4 c κs = c .before .before .before .before .before .pre .1
 
 then-try-requires-5 : tie.Need-then-try-requires-5
-then-try-requires-5 c κs = let s = c .before .before .before .before .before .before .before .before in (s .pre .0 .first, s .pre .1 .first .lies)
+then-try-requires-5 c κs = c .before .before .before .before .before .before .pre .0
 
 then-try-requires-6 : tie.Need-then-try-requires-6
-then-try-requires-6 c κs = let s = c .before .before .before .before .before .before .before .before .before in (s .pre .0 .second, s .pre .1 .second .lies)
+then-try-requires-6 c κs = c .before .before .before .before .before .before .before .pre .1
 
 returns : tie.Need-returns
 returns c =
-    let k = c .before .before .before .before .before .before .before .before .before .before .pre .1 in
     in-turn _ _ _ _ _ _ _ _
     (c .before .before .before .before .before .before .before .both .ensures)
     (c .before .before .before .before .before .before .both2 .ensures)
@@ -42,7 +40,6 @@ returns c =
     (c .before .before .then-try4 .ensures)
     (c .before .then-try5 .ensures)
     (c .then-try6 .ensures)
-    ∙ reading-by _ _ _ _ _ (k .first) (k .second) (k .differ)
 
 pub try-six-spec : {M : Type 1} → statement M
 try-six-spec =

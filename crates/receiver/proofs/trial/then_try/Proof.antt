@@ -19,14 +19,14 @@ returns c = stays _ _ (c .enum-told2 .given .1)
 
 returns-2 : tie.Need-returns-2
 unfolding orTry given
-returns-2 c = simp (c .before .enum-told .given .1, not-true (c .before .before .before .before .args .made) (c .if1 .taken))
+returns-2 c = simp (c .before .enum-told .given .1, not-true (c .before .before .before .args .made) (c .if1 .taken))
 
 try-one-requires : tie.Need-try-one-requires
 try-one-requires c κs = search needs
 
 returns-3 : tie.Need-returns-3
 unfolding orTry given
-returns-3 c = simp (c .before .before .enum-told .given .1, not-false (c .before .before .before .before .before .args .made) (c .before .if1 .left)) (c .try-one .ensures)
+returns-3 c = simp (c .before .before .enum-told .given .1, not-false (c .before .before .before .before .args .made) (c .before .if1 .left)) (c .try-one .ensures)
 
 pub then-try-spec : {M : Type 1} → statement M
 then-try-spec =

@@ -8,7 +8,7 @@ use borrow.Author.Needs.{needs}
 use Rattle.lists.specs.Bits.{value, packed}
 use Rattle.lists.proofs.Table.{Done, done-none, done-more, done-all}
 use Rattle.scan.specs.Lanes.{laneBit, laneBytes, laneInto}
-use Rattle.scan.proofs.Packing.{lane-done}
+use Rattle.scan.proofs.Packing.{lane-byte, lane-done}
 use Rattle.scan.proofs.stream.find_stream.Statement.{statement}
 use Rattle.scan.proofs.stream.find_stream.Tie as tie
 
@@ -33,8 +33,14 @@ returns-3 c = simp (eq-eqb _ _ (c .before .before .if1 .left), eq-eqb _ _ (c .be
 loop-holds : tie.Need-loop-holds Inv-loop μ-loop
 loop-holds c = (omega arith, done-none _ _ _ _ (c .before .if2 .left))
 
-byte-of-requires : tie.Need-byte-of-requires Inv-loop μ-loop
-byte-of-requires c κs = (c .before .before .before .before .if1 .left, omega (arith, c .before .before .if3 .left), c .loop-test .taken)
+mul-byte-from : tie.Need-mul-byte-from Inv-loop μ-loop
+mul-byte-from c = search needs
+
+add-byte-from : tie.Need-add-byte-from Inv-loop μ-loop
+add-byte-from c = search needs
+
+byte-from-requires : tie.Need-byte-from-requires Inv-loop μ-loop
+byte-from-requires c κs = (c .before .before .before .before .if1 .left, omega (arith, c .before .before .if3 .left, c .loop-test .taken))
 
 slice-write-out : tie.Need-slice-write-out Inv-loop μ-loop
 slice-write-out c = search needs
@@ -46,7 +52,7 @@ loop-less : tie.Need-loop-less Inv-loop μ-loop
 loop-less c = search needs
 
 loop-again : tie.Need-loop-again Inv-loop μ-loop
-loop-again c = (omega arith, done-more _ _ _ _ _ _ (c .before .loop-test .taken) (c .before .before .loop .inv .1) (c .byte-of .ensures))
+loop-again c = (omega arith, done-more _ _ _ _ _ _ (c .before .loop-test .taken) (c .before .before .loop .inv .1) (c .byte-from .ensures ∙ lane-byte _ _ _))
 
 same-length : tie.Need-same-length Inv-loop μ-loop
 same-length c = c .before .loop .inv .1 .size ∙ sym (c .before .before .before .if2 .left)
@@ -68,7 +74,9 @@ find-stream-spec =
     returns-2
     returns-3
     loop-holds
-    byte-of-requires
+    mul-byte-from
+    add-byte-from
+    byte-from-requires
     slice-write-out
     add-k
     loop-less

@@ -1,4 +1,4 @@
--- `scan::stream::byte_of` meets its contract. The loop: the number has the first m bits. Assumes nothing.
+-- `scan::stream::byte_from` meets its contract. The loop: the number has the first m bits. Assumes nothing.
 use mathlib.Core.Path.{_≡_, refl, ap, _∙_}
 use Prim.Native.Nat.{_*_, _-_, _≤_}
 use native.Mathlib.Omega.{arith}
@@ -6,16 +6,16 @@ use lib.Bits.{and-mask}
 use borrow.Author.Needs.{needs}
 use denote.Ref.{now}
 use Rattle.lists.specs.Bits.{value}
-use Rattle.scan.specs.Lanes.{laneBit}
+use Rattle.scan.specs.Lanes.{laneBit, byteFrom}
 use Rattle.scan.proofs.Packing.{bit-more}
-use Rattle.scan.proofs.stream.byte_of.Statement.{statement}
-use Rattle.scan.proofs.stream.byte_of.Tie as tie
+use Rattle.scan.proofs.stream.byte_from.Statement.{statement}
+use Rattle.scan.proofs.stream.byte_from.Tie as tie
 
 abbrev Inv-loop : tie.InvT-loop
-Inv-loop bits lane k b₀ m₀ b m = (m ≤ 8) × (b ≡ value (laneBit bits lane) (8 * k) m)
+Inv-loop bits p b₀ m₀ b m = (m ≤ 8) × (b ≡ value (laneBit bits p) 0 m)
 
 abbrev μ-loop : tie.MeasureT-loop
-μ-loop bits lane k b₀ m₀ b m = 8 - m
+μ-loop bits p b₀ m₀ b m = 8 - m
 
 loop-holds : tie.Need-loop-holds Inv-loop μ-loop
 unfolding value
@@ -24,14 +24,8 @@ loop-holds c = (omega arith, refl)
 mul-b : tie.Need-mul-b Inv-loop μ-loop
 mul-b c = search needs
 
-mul-b-2 : tie.Need-mul-b-2 Inv-loop μ-loop
-mul-b-2 c = search needs
-
 add-b : tie.Need-add-b Inv-loop μ-loop
 add-b c = search needs
-
-add-b-2 : tie.Need-add-b-2 Inv-loop μ-loop
-add-b-2 c = search needs
 
 shared-slice-read-b : tie.Need-shared-slice-read-b Inv-loop μ-loop
 shared-slice-read-b c = search needs
@@ -46,25 +40,24 @@ loop-again : tie.Need-loop-again Inv-loop μ-loop
 loop-again c =
     let l = c .before .before .loop in
     let a = c .before .before .before .args in
-    (omega arith, bit-more (now (a .bits)) (a .lane) (a .k) (l .m) (l .b) (c .before .loop-test .taken) (l .inv .1) (and-mask _ 1))
+    (omega arith, bit-more (now (a .bits)) (a .p) (l .m) (l .b) (c .before .loop-test .taken) (l .inv .1) (and-mask _ 1))
 
 returns : tie.Need-returns Inv-loop μ-loop
+unfolding byteFrom
 returns c =
     let l = c .before .loop in
     let e : l .m ≡ 8 = omega (arith, l .inv .0, c .loop-test .left) in
     l .inv .1 ∙ ap (value _ _) e
 
-pub byte-of-spec : {M : Type 1} → statement M
-byte-of-spec =
+pub byte-from-spec : {M : Type 1} → statement M
+byte-from-spec =
     tie.close
     (tie.spec
     Inv-loop
     μ-loop
     loop-holds
     mul-b
-    mul-b-2
     add-b
-    add-b-2
     shared-slice-read-b
     add-m
     loop-less

@@ -1,4 +1,4 @@
--- `receiver::find::lane_of` meets its contract.
+-- `receiver::lanes::lane_of` meets its contract.
 -- Assumes nothing.
 use mathlib.Core.Path.{refl, ap, _∙_}
 use mathlib.Core.List.{List}
@@ -7,8 +7,8 @@ use native.Mathlib.Omega.{arith}
 use lib.ListN.{replicate}
 use Rattle.scan.proofs.Packing.{lane-done}
 use borrow.Author.Needs.{needs}
-use Rattle.receiver.proofs.find.lane_of.Statement.{statement}
-use Rattle.receiver.proofs.find.lane_of.Tie as tie
+use Rattle.receiver.proofs.lanes.lane_of.Statement.{statement}
+use Rattle.receiver.proofs.lanes.lane_of.Tie as tie
 
 slice-aggregate-find-stream : tie.Need-slice-aggregate-find-stream
 slice-aggregate-find-stream c = search needs

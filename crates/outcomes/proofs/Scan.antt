@@ -7,6 +7,7 @@ use Rattle.outcomes.proofs.Law.{fixes, answer-set}
 use Rattle.scan.proofs.list.list_exact as list-list-exact
 use Rattle.scan.proofs.list.list_exact_short as list-list-exact-short
 use Rattle.scan.proofs.stream.find_stream as stream-find-stream
+use Rattle.scan.proofs.stream.find_first_byte as stream-find-first-byte
 use Rattle.scan.proofs.window.scan as window-scan
 use Rattle.scan.proofs.window.scan_short as window-scan-short
 use Rattle.scan.proofs.window.scan_both as window-scan-both
@@ -25,6 +26,11 @@ pub stream-find-stream-fixed : Fixed stream-find-stream.ended (answer _) (λ M �
 stream-find-stream-fixed =
     fixes stream-find-stream.ended _ (answer-set stream-find-stream.ended) refl (λ κs. refl)
     (λ κs a r e. (r, now (e .1 .1 .0))) (λ κs a y. (y .0, (tt, (tt, (y .1, tt))))) (λ κs a r ws. refl)
+
+pub stream-find-first-byte-fixed : Fixed stream-find-first-byte.ended (answer _) (λ M 𝓤 H. stream-find-first-byte.clauses 𝓤 H) (λ M 𝓤 H. stream-find-first-byte.spec 𝓤 H)
+stream-find-first-byte-fixed =
+    fixes stream-find-first-byte.ended _ (answer-set stream-find-first-byte.ended) refl (λ κs. refl)
+    (λ κs a r e. r) (λ κs a y. (y, (tt, (tt, tt)))) (λ κs a r ws. refl)
 
 pub window-scan-fixed : Fixed window-scan.ended (answer _) (λ M 𝓤 H. window-scan.clauses 𝓤 H) (λ M 𝓤 H. window-scan.spec 𝓤 H)
 window-scan-fixed =

@@ -23,7 +23,7 @@ use Rattle.scan.proofs.Packing.{first-byte}
 use Rattle.search.specs.declared.Tried.{Tried}
 use Rattle.search.specs.Kinds.{Kind}
 use Rattle.search.specs.Trials.{sixTrials, first, reading}
-use Rattle.receiver.specs.Inner.{Stream, Streams, Lane, Known}
+use Rattle.receiver.specs.Inner.{Streams, Lane, Known}
 use Rattle.receiver.proofs.EitherKind.{Right}
 use Rattle.receiver.proofs.Turns.{reading-first}
 

@@ -18,7 +18,6 @@ use lib.ListN.{length, getD, take, drop}
 use lib.Ieee.{Float}
 use Rattle.lists.specs.From.{tabulate}
 use Rattle.lists.proofs.Table.{length-tabulate, getD-tabulate}
-use Rattle.lists.specs.Bits.{packed}
 use Rattle.annex10.specs.Remainder.{remainder}
 use Rattle.annex10.specs.declared.Found.{Found}
 use Rattle.place.specs.declared.Place.{Place}

@@ -18,7 +18,6 @@ use Rattle.lists.proofs.Table.{getD-tabulate}
 use Rattle.lists.proofs.Bits.{value-lt, value-same, bitAt-packed}
 use Rattle.streams.specs.Streams.{messageAt}
 use Rattle.scan.specs.Lanes.{laneBit, laneBytes, laneInto, byteFrom, firstByte}
-use Rattle.scan.specs.declared.stream.FirstByte.{FirstByte}
 
 module _ (bits : List ℕ) (t : ℕ) where
   bit-lt : (i : ℕ) → laneBit bits t i < 2

@@ -1,6 +1,6 @@
 -- `receiver::candidate::read_lane` meets its contract: the trials by the first bytes, then what survives.
 -- Assumes nothing.
-use mathlib.Core.Path.{_≡_, sym, _∙_, subst}
+use mathlib.Core.Path.{sym, _∙_, subst}
 use Prim.Native.Nat.{ℕ, _≤_}
 use native.Mathlib.Omega.{arith}
 use Rattle.annex10.specs.Repair.{count}

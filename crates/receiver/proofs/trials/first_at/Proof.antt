@@ -1,8 +1,6 @@
 -- `receiver::trials::first_at` meets its contract: the call is never refused.
 -- Assumes nothing.
 use mathlib.Core.Path.{ap, _∙_}
-use mathlib.Core.List.{List}
-use Prim.Native.Nat.{ℕ}
 use lib.ListN.{getD}
 use Rattle.streams.specs.declared.message.Message.{Message}
 use Rattle.streams.proofs.Reading.{extracted-done}

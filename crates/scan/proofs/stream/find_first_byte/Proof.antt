@@ -1,10 +1,8 @@
 -- `scan::stream::find_first_byte` meets its contract. Assumes nothing.
 use mathlib.Core.Path.{sym, ap, _∙_}
 use Prim.Native.Nat.{ℕ}
-use native.Mathlib.Omega.{arith}
 use borrow.Author.Tests.{eq-eqb, ne-eqb, lt-leb}
 use borrow.Author.Needs.{needs}
-use Rattle.scan.specs.declared.stream.FirstByte.{FirstByte}
 use Rattle.scan.specs.Lanes.{firstByte}
 use Rattle.scan.proofs.Packing.{byte-done}
 use Rattle.scan.proofs.stream.find_first_byte.Statement.{statement}

@@ -9,8 +9,8 @@ use Rattle.lists.specs.Bits.{bitAt}
 use Rattle.place.specs.declared.Place.{Place}
 use Rattle.place.specs.declared.Slicer.{Slicer}
 use Rattle.place.proofs.Within.{listed-gives}
-use Rattle.kernels.specs.Slices.{greaterBy, slicedBit}
-use Rattle.kernels.proofs.Slicing.{bit-sliced}
+use Rattle.slicing.specs.Slices.{greaterBy, slicedBit}
+use Rattle.slicing.proofs.Slicing.{bit-sliced}
 use Rattle.streams.proofs.Reading.{message-bit}
 use Rattle.search.specs.Seen.{row, stream, bitsAt}
 use Rattle.search.proofs.Marks.{short-of-end, compared, marks-tossed, by-samples}

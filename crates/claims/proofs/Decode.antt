@@ -19,7 +19,7 @@ use Rattle.place.specs.declared.Place.{Place}
 use Rattle.place.specs.declared.Slicer.{Slicer}
 use Rattle.place.specs.declared.location.Location.{Location}
 use Rattle.place.proofs.Within.{listed-gives}
-use Rattle.kernels.specs.Slices.{greaterBy, undecided}
+use Rattle.slicing.specs.Slices.{greaterBy, undecided}
 use Rattle.search.specs.declared.Settings.{Settings}
 use Rattle.search.specs.declared.Candidate.{Candidate}
 use Rattle.search.specs.declared.Answer.{Answer}

@@ -18,7 +18,7 @@ use Rattle.place.specs.declared.Slicer.{Slicer}
 use Rattle.place.specs.declared.Slicer.the-variants.{Coherent}
 use Rattle.place.specs.declared.location.Location.{Location}
 use Rattle.place.specs.Agrees.{side}
-use Rattle.kernels.specs.Slices.{greaterBy}
+use Rattle.slicing.specs.Slices.{greaterBy}
 use Rattle.search.specs.declared.Settings.{Settings}
 use Rattle.search.specs.declared.Answer.{Answer}
 use Rattle.search.specs.Kinds.{Kind, placesOf}

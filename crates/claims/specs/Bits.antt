@@ -12,7 +12,7 @@ use Rattle.place.specs.declared.Slicer.{Slicer}
 use Rattle.place.specs.Step.{symbolStart}
 use Rattle.place.specs.All.{listed}
 use Rattle.kernels.specs.Symbols.{symbolOf}
-use Rattle.kernels.specs.Slices.{greaterBy, undecided}
+use Rattle.slicing.specs.Slices.{greaterBy, undecided}
 use Rattle.search.specs.Seen.{bitsAt, marksAt, undecidedAt}
 
 -- the two halves of bit j at a place: symbols, each the sum of four samples

@@ -13,11 +13,13 @@ pub mod Mode_s
 pub mod Outcomes
 pub mod Parts
 pub mod Place
+pub mod Powers
 pub mod Probes
 pub mod Receiver
 pub mod Repairs
 pub mod Scan
 pub mod Sieve
+pub mod Slicing
 pub mod Streams
 pub mod Timing
 pub mod Words

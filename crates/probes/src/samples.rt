@@ -1,18 +1,18 @@
 // From samples to symbols, streams, undecided bits and powers.
 use crate::bits::FlatNumber;
-use kernels::power::Power;
-use kernels::power::postdecode_noise_power;
-use kernels::power::postdecode_power;
-use kernels::slicers::demodulate;
 use kernels::symbols::accumulate_symbols;
-use kernels::undecided::Undecided;
-use kernels::undecided::count_undecided;
 use place::Slicer;
+use powers::power::Power;
+use powers::power::postdecode_noise_power;
+use powers::power::postdecode_power;
+use slicing::slicers::demodulate;
+use slicing::undecided::Undecided;
+use slicing::undecided::count_undecided;
 ghost use mathlib.Core.Path.{_≡_};
 ghost use Rattle.kernels.specs.Symbols.{accumulated};
-ghost use Rattle.kernels.specs.Slices.{demodulated};
-ghost use Rattle.kernels.specs.Undecided.{undecidedOf};
-ghost use Rattle.kernels.specs.Powers.{powerTold, powerAt, noisePowerAt};
+ghost use Rattle.slicing.specs.Slices.{demodulated};
+ghost use Rattle.slicing.specs.Undecided.{undecidedOf};
+ghost use Rattle.powers.specs.Powers.{powerTold, powerAt, noisePowerAt};
 ghost use Rattle.cn0.specs.Estimate.{cn0Of};
 ghost use Rattle.math.specs.Parabola.{parabola};
 ghost use Rattle.probes.specs.Flat.{flatPower, flatNumber, slicerBy};

@@ -19,7 +19,7 @@ use Rattle.place.specs.All.{listed}
 use Rattle.place.specs.Agrees.{locationNumber}
 use Rattle.parts.specs.Part.{symbolsAt}
 use Rattle.kernels.specs.Symbols.{symbolsOf}
-use Rattle.kernels.specs.Undecided.{undecidedIn}
+use Rattle.slicing.specs.Undecided.{undecidedIn}
 use Rattle.search.specs.declared.Settings.{Settings}
 use Rattle.search.specs.declared.Survivor.{Survivor}
 use Rattle.search.specs.Kinds.{Kind}

@@ -22,17 +22,17 @@ use Rattle.place.proofs.Within.{Within, within-gives}
 use Rattle.place.proofs.Agreeing.{located-gives}
 use Rattle.parts.specs.Part.{symbolsAt, samplesAt, symbolsFor, samplesFor, chosen, partSize, slicerPart}
 use Rattle.parts.proofs.Taken.{row-is, symbols-done, samples-done, symbols-long, samples-long, streams-is, part-done, part-long}
-use Rattle.kernels.specs.declared.power.Power.{Power}
-use Rattle.kernels.specs.declared.power.Power.the-variants.{Is}
-use Rattle.kernels.specs.declared.both.Powers.{Powers}
-use Rattle.kernels.specs.Powers.{powerOf, noiseOf, powerTold, powerAt}
-use Rattle.kernels.specs.declared.around.Around.{Around}
-use Rattle.kernels.specs.Both.{powersAt}
-use Rattle.kernels.specs.Around.{aroundAt}
-use Rattle.kernels.specs.Undecided.{undecidedIn, undecidedOf}
-use Rattle.kernels.proofs.Counting.{undecided-done}
-use Rattle.kernels.proofs.Measuring.{power-done, powers-done, around-done}
-use Rattle.kernels.proofs.Told.{powerUntold, power-back}
+use Rattle.slicing.specs.Undecided.{undecidedIn, undecidedOf}
+use Rattle.slicing.proofs.Counting.{undecided-done}
+use Rattle.powers.specs.declared.power.Power.{Power}
+use Rattle.powers.specs.declared.power.Power.the-variants.{Is}
+use Rattle.powers.specs.declared.both.Powers.{Powers}
+use Rattle.powers.specs.Powers.{powerOf, noiseOf, powerTold, powerAt}
+use Rattle.powers.specs.declared.around.Around.{Around}
+use Rattle.powers.specs.Both.{powersAt}
+use Rattle.powers.specs.Around.{aroundAt}
+use Rattle.powers.proofs.Measuring.{power-done, powers-done, around-done}
+use Rattle.powers.proofs.Told.{powerUntold, power-back}
 use Rattle.streams.specs.declared.message.Message.{Message}
 use Rattle.streams.specs.Streams.{messageAt}
 use Rattle.streams.specs.Messages.{partMessage}

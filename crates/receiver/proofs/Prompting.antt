@@ -36,9 +36,9 @@ use Rattle.search.specs.declared.Prompt.{Prompt}
 use Rattle.search.specs.When.{startedAt, lookAt, over, promptOf, about, timingAt}
 use Rattle.search.specs.Kinds.{Kind}
 use Rattle.search.specs.Seen.{seen, windowOf, promptAt, row}
-use Rattle.kernels.specs.declared.around.Around.{Around}
 use Rattle.kernels.specs.Symbols.{symbolsOf}
-use Rattle.kernels.specs.Around.{aroundAt}
+use Rattle.powers.specs.declared.around.Around.{Around}
+use Rattle.powers.specs.Around.{aroundAt}
 use Rattle.receiver.specs.Inner.{powerIn, aroundIn, timedBy, seenIn}
 use Rattle.receiver.proofs.EitherKind.{Right}
 use Rattle.receiver.proofs.Looking.{partIn, around-in}

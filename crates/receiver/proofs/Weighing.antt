@@ -32,7 +32,7 @@ use Rattle.place.specs.Step.{within}
 use Rattle.place.specs.Agrees.{locationNumber}
 use Rattle.place.proofs.Within.{within-gives}
 use Rattle.parts.specs.Part.{symbolsAt, samplesAt, chosen}
-use Rattle.kernels.specs.Powers.{powerOf, noiseOf}
+use Rattle.powers.specs.Powers.{powerOf, noiseOf}
 use Rattle.streams.specs.Streams.{messageAt}
 use Rattle.streams.specs.Distances.{differing}
 use Rattle.cn0.specs.Estimate.{cn0Of}

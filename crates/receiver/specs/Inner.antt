@@ -25,10 +25,10 @@ use Rattle.place.specs.All.{listed}
 use Rattle.place.specs.Agrees.{locationNumber}
 use Rattle.parts.specs.Part.{symbolsAt, samplesAt, chosen}
 use Rattle.math.specs.Parabola.{parabola}
-use Rattle.kernels.specs.declared.around.Around.{Around}
 use Rattle.kernels.specs.Symbols.{symbolsOf}
-use Rattle.kernels.specs.Powers.{powerOf, noiseOf}
-use Rattle.kernels.specs.Undecided.{undecidedIn}
+use Rattle.slicing.specs.Undecided.{undecidedIn}
+use Rattle.powers.specs.declared.around.Around.{Around}
+use Rattle.powers.specs.Powers.{powerOf, noiseOf}
 use Rattle.streams.specs.Streams.{messageAt}
 use Rattle.streams.specs.Distances.{differing}
 use Rattle.annex10.specs.Codes.{absent}

@@ -1,15 +1,15 @@
 // The bits of a message that were undecided.
 use crate::kinds::symbols_part;
-use kernels::undecided::Undecided;
-use kernels::undecided::count_undecided;
 use mode_s::message::MessageKind;
 use place::location::Location;
 use search::Candidate;
 use search::Survivor;
+use slicing::undecided::Undecided;
+use slicing::undecided::count_undecided;
 ghost use mathlib.Core.Path.{_≡_};
 ghost use Prim.Native.Nat.{_*_};
 ghost use lib.ListN.{length};
-ghost use Rattle.kernels.specs.Undecided.{undecidedIn};
+ghost use Rattle.slicing.specs.Undecided.{undecidedIn};
 ghost use Rattle.place.specs.Agrees.{locationNumber};
 ghost use Rattle.parts.specs.Part.{symbolsAt};
 ghost use Rattle.receiver.specs.Inner.{kindOf, countedIn};

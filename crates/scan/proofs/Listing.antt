@@ -24,7 +24,7 @@ use lib.Seq.{take-suc, drop-cons, set-at, append-snoc, length-take-le}
 use Rattle.lists.specs.From.{tabulate}
 use Rattle.lists.specs.Bits.{asBit}
 use Rattle.lists.proofs.Table.{length-tabulate, getD-tabulate}
-use Rattle.kernels.proofs.Slicing.{asBit-lt}
+use Rattle.slicing.proofs.Slicing.{asBit-lt}
 use Rattle.scan.specs.declared.list.Listed.{Listed}
 use Rattle.scan.specs.Sieve.{kept, laneOf, onto}
 use Rattle.scan.specs.Exact.{cleanAt, exact, listOf, exactInto}

@@ -30,9 +30,9 @@ use Rattle.place.specs.Step.{sampleStart}
 use Rattle.math.specs.declared.Complex.{Complex}
 use Rattle.math.specs.Complex.{normOf}
 use Rattle.kernels.specs.Symbols.{complexAt, sumFrom, sumsOf, symbolOf}
-use Rattle.kernels.specs.Slices.{greaterBy, slicedBit, sliced}
 use Rattle.kernels.proofs.Summing.{row-symbol, sum-stands}
-use Rattle.kernels.proofs.Slicing.{asBit-lt, either, bit-sliced}
+use Rattle.slicing.specs.Slices.{greaterBy, slicedBit, sliced}
+use Rattle.slicing.proofs.Slicing.{asBit-lt, either, bit-sliced}
 use Rattle.streams.specs.Streams.{messageAt}
 use Rattle.streams.proofs.Parting.{same-packed}
 use Rattle.search.specs.Seen.{row, stream, bitsAt}

@@ -13,7 +13,7 @@ use Rattle.annex10.specs.Remainder.{remainder}
 use Rattle.place.specs.declared.Slicer.{Slicer}
 use Rattle.place.specs.declared.Slicer.the-variants.{Coherent, Noncoherent}
 use Rattle.kernels.specs.Symbols.{sumFrom, sumsOf}
-use Rattle.kernels.specs.Slices.{greaterBy}
+use Rattle.slicing.specs.Slices.{greaterBy}
 
 -- the bit that starts with sample p: the sum of four samples from p on against that from p + 4 on; 0 where there is no second
 unfoldable pub startBit : Slicer → List Float → ℕ → ℕ

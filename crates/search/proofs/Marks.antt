@@ -26,10 +26,10 @@ use Rattle.place.specs.All.{listed}
 use Rattle.place.proofs.Within.{listed-gives}
 use Rattle.parts.specs.Part.{symbolsAt}
 use Rattle.kernels.specs.Symbols.{complexAt, symbolOf}
-use Rattle.kernels.specs.Slices.{undecided, ofPair, markBit}
-use Rattle.kernels.specs.Undecided.{undecidedIn}
-use Rattle.kernels.proofs.Slicing.{pair-inside, bit-marked}
 use Rattle.kernels.proofs.Summing.{complex-part, row-symbol}
+use Rattle.slicing.specs.Slices.{undecided, ofPair, markBit}
+use Rattle.slicing.specs.Undecided.{undecidedIn}
+use Rattle.slicing.proofs.Slicing.{pair-inside, bit-marked}
 use Rattle.streams.proofs.Reading.{message-bit}
 use Rattle.search.specs.declared.Settings.{Settings}
 use Rattle.search.specs.declared.Tried.{Tried}

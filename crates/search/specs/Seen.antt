@@ -10,8 +10,8 @@ use Rattle.place.specs.declared.Slicer.{Slicer}
 use Rattle.place.specs.declared.Slicer.the-variants.{Coherent, Noncoherent}
 use Rattle.parts.specs.Part.{symbolsAt, samplesAt}
 use Rattle.kernels.specs.Symbols.{symbolsOf}
-use Rattle.kernels.specs.Slices.{sliced, marks}
-use Rattle.kernels.specs.Powers.{powerOf, noiseOf}
+use Rattle.slicing.specs.Slices.{sliced, marks}
+use Rattle.powers.specs.Powers.{powerOf, noiseOf}
 use Rattle.streams.specs.Streams.{messageAt}
 use Rattle.streams.specs.Distances.{differing}
 use Rattle.cn0.specs.Estimate.{cn0Of}

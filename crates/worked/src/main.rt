@@ -2,7 +2,6 @@
 // place, so that trial 4 clears the noncoherent bits, fails at their header, and trial 5 has to go back to the coherent bits. The third is
 // the first with five bits of which nothing came in.
 use annex10::Repairs;
-use kernels::slicers::demodulate;
 use kernels::symbols::accumulate_symbols;
 use libc::STDOUT_FILENO;
 use mode_s::avr::format_avr;
@@ -10,6 +9,7 @@ use place::Slicer;
 use receiver::decode::decode;
 use search::Answer;
 use search::Settings;
+use slicing::slicers::demodulate;
 use streams::crc::Crc;
 use streams::crc::compute_crc;
 use streams::message::extract_message;

@@ -1,7 +1,7 @@
 -- `probes::samples::flat` meets its contract, by cases of the answer. Assumes nothing.
 use mathlib.Core.Path.{sym, ap}
-use Rattle.kernels.specs.declared.power.Power.{Power}
-use Rattle.kernels.specs.Powers.{powerTold}
+use Rattle.powers.specs.declared.power.Power.{Power}
+use Rattle.powers.specs.Powers.{powerTold}
 use Rattle.probes.specs.Flat.{flatPower}
 use borrow.Author.Needs.{needs}
 use Rattle.probes.proofs.samples.flat.Statement.{statement}

@@ -1,6 +1,6 @@
 -- `probes::samples::probe_undecided` meets its contract, by cases of the answer. Assumes nothing.
 use mathlib.Core.Path.{sym, ap, _∙_}
-use Rattle.kernels.specs.Undecided.{undecidedTold, undecidedOf}
+use Rattle.slicing.specs.Undecided.{undecidedTold, undecidedOf}
 use Rattle.probes.specs.Flat.{flatNumber}
 use borrow.Author.Needs.{needs}
 use Rattle.probes.proofs.samples.probe_undecided.Statement.{statement}

@@ -4,7 +4,7 @@ use mathlib.Core.Path.{_≡_, sym, ap, _∙_}
 use native.Mathlib.Omega.{arith}
 use lib.ListN.{length}
 use Rattle.parts.specs.Part.{chosen}
-use Rattle.kernels.specs.declared.both.Powers.{Powers}
+use Rattle.powers.specs.declared.both.Powers.{Powers}
 use Rattle.receiver.specs.Inner.{kindOf}
 use Rattle.receiver.proofs.EitherKind.{right}
 use Rattle.receiver.proofs.Weighing.{candidate-is}

@@ -1,7 +1,7 @@
 -- `receiver::undecided::undecided_at` meets its contract: the part for the place is never refused. Assumes nothing.
 use mathlib.Core.Path.{sym, ap, _∙_}
 use Rattle.lists.proofs.Telling.{same-values, not-done}
-use Rattle.kernels.specs.Undecided.{undecidedTold}
+use Rattle.slicing.specs.Undecided.{undecidedTold}
 use Rattle.receiver.specs.Inner.{kindOf}
 use Rattle.receiver.proofs.EitherKind.{right}
 use Rattle.receiver.proofs.Looking.{undecided-is}

@@ -1,0 +1,6 @@
+// The powers of a message.
+pub mod around;
+pub mod both;
+mod complex;
+mod norms;
+pub mod power;

@@ -1,0 +1,4 @@
+pub mod Slicing
+pub mod Counting
+pub mod Joining
+pub mod Told

@@ -1,0 +1,3 @@
+pub mod Slices
+pub mod Undecided
+pub mod Inner

@@ -13,7 +13,6 @@ use Rattle.place.specs.declared.Place.{Place}
 use Rattle.place.specs.declared.Slicer.{Slicer}
 use Rattle.place.specs.declared.Slicer.the-variants.{Coherent, Noncoherent}
 use Rattle.place.specs.declared.location.Location.{Location}
-use Rattle.place.specs.Step.{symbolStart, sampleStart}
 use Rattle.place.specs.Agrees.{locationNumber}
 use Rattle.parts.specs.Part.{symbolsAt, samplesAt, rowRefusal, symbolsFor, samplesFor, streamsRefusal, chosen, partSize, slicerPart}
 use Rattle.place.proofs.Within.{Within, within-gives}

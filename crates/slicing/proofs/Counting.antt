@@ -17,7 +17,6 @@ use Rattle.lists.specs.Bits.{asBit, howMany}
 use Rattle.lists.specs.Told.{done, refused}
 use Rattle.lists.proofs.Bits.{howMany-le}
 use Rattle.annex10.specs.Length.{messageLength}
-use Rattle.math.specs.declared.Complex.{Complex}
 use Rattle.place.specs.declared.Slicer.{Slicer}
 use Rattle.kernels.specs.Symbols.{complexAt}
 use Rattle.slicing.specs.Slices.{measure, undecided}
@@ -33,11 +32,11 @@ module _ (slicer : Slicer) (symbols : List Float) where
   unfolding undecidedIn
   count-le n e = rw e (howMany-le _ (λ j. asBit-lt (undecided slicer (complexAt symbols (2 * j)) (complexAt symbols (2 * j + 1)))) n)
 
-  pub count-more : (j : ℕ) {c m : ℕ} {z w : Complex} {x y : Float} → c ≡ undecidedIn slicer symbols j
-      → z ≡ complexAt symbols (2 * j) → x ≡ measure slicer z → w ≡ complexAt symbols (2 * j + 1) → y ≡ measure slicer w
+  pub count-more : (j : ℕ) {c m : ℕ} {x y : Float} → c ≡ undecidedIn slicer symbols j
+      → x ≡ measure slicer (complexAt symbols (2 * j)) → y ≡ measure slicer (complexAt symbols (2 * j + 1))
       → m ≡ asBit (not (lt y x) && not (lt x y)) → c + m ≡ undecidedIn slicer symbols (j + 1)
   unfolding undecidedIn howMany
-  count-more j e f g h i k = rw (add-one j, e, k, g, f, i, h)
+  count-more j e f g h = rw (add-one j, e, h, f, g)
 
   pub counted : (n : ℕ) {c : ℕ} → length symbols ≡ 4 * n → (eqb (4 * n) 448 || eqb (4 * n) 224) ≡ true → c ≡ undecidedIn slicer symbols n
       → done c ≡ undecidedOf symbols slicer

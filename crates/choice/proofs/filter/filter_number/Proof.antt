@@ -1,6 +1,5 @@
 -- `choice::filter::filter_number` meets its contract: the settings first, then the location.
 -- Assumes nothing.
-use mathlib.Core.Path.{sym, _∙_}
 use borrow.Author.Tests.{eq-eqb, ne-eqb}
 use borrow.Author.Needs.{needs}
 use Rattle.choice.proofs.filter.filter_number.Statement.{statement}

@@ -1,6 +1,6 @@
 -- `mode_s::header::by_capability` meets its contract.
 -- Assumes nothing.
-use mathlib.Core.Path.{sym, _∙_}
+use mathlib.Core.Path.{sym}
 use Rattle.annex10.specs.Address.{byCapability}
 use Rattle.mode_s.proofs.Codes.{capability}
 use borrow.Author.Needs.{needs}

@@ -1,5 +1,5 @@
 -- `slicing::undecided::count_marks` meets its contract. The loop: the marks of the first j bits are counted. Assumes nothing.
-use mathlib.Core.Path.{_≡_, refl, ap, _∙_}
+use mathlib.Core.Path.{_≡_, ap, _∙_}
 use Prim.Native.Nat.{_-_, _≤_}
 use native.Mathlib.Omega.{arith}
 use Rattle.slicing.specs.Undecided.{undecidedIn}
@@ -41,7 +41,7 @@ cast-count c = search needs
 add-count : tie.Need-add-count Inv-loop μ-loop
 add-count c =
     let l = c .before .before .before .before .loop in
-    let more = count-more _ _ (l .j) (l .inv .1) refl (c .before .before .measure-at .ensures) refl (c .before .measure-at2 .ensures) (c .mark-of-pair .ensures) in
+    let more = count-more _ _ (l .j) (l .inv .1) (c .before .before .measure-at .ensures) (c .before .measure-at2 .ensures) (c .mark-of-pair .ensures) in
     omega (arith, count-le _ _ _ more, c .before .before .before .loop-test .taken, c .before .before .before .before .before .before .pre .1)
 
 add-j : tie.Need-add-j Inv-loop μ-loop
@@ -53,7 +53,7 @@ loop-less c = search needs
 loop-again : tie.Need-loop-again Inv-loop μ-loop
 loop-again c =
     let l = c .before .before .before .before .loop in
-    (search needs, count-more _ _ (l .j) (l .inv .1) refl (c .before .before .measure-at .ensures) refl (c .before .measure-at2 .ensures) (c .mark-of-pair .ensures))
+    (search needs, count-more _ _ (l .j) (l .inv .1) (c .before .before .measure-at .ensures) (c .before .measure-at2 .ensures) (c .mark-of-pair .ensures))
 
 returns : tie.Need-returns Inv-loop μ-loop
 returns c =

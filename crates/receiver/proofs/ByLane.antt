@@ -3,7 +3,7 @@
 --     lane-reading     the six trials by the first bytes of its messages are the reading
 -- Assumes nothing.
 use mathlib.Core.Path.{_≡_, ap, _∙_}
-use mathlib.Core.Bool.{Bool}
+use mathlib.Core.Bool.{Bool, true, false, cond}
 use mathlib.Core.List.{List, [], _∷_}
 use Prim.Native.Nat.{ℕ, _+_, _*_, _<_}
 use native.Mathlib.Omega.{arith}
@@ -35,15 +35,19 @@ chosen-length : (slicer : Slicer) (a b : List ℕ) → length a ≡ 18 → lengt
 chosen-length Coherent a b h g = h
 chosen-length Noncoherent a b h g = g
 
+either-length : (t : Bool) (a b : List ℕ) → length a ≡ 18 → length b ≡ 18 → length (cond t a b) ≡ 18
+either-length true a b h g = h
+either-length false a b h g = g
+
 module _ (k : Kind) (coherent noncoherent : List ℕ) (lane bit : ℕ) (w : Lane k coherent noncoherent lane bit) where
-  -- of which one may stand in for the other
-  pub lane-streams : (slicer : Slicer) {a b : List ℕ} → a ≡ laneBytes coherent lane → b ≡ chosen slicer a (laneBytes noncoherent lane) → Streams k a b bit
-  lane-streams slicer {a} e f =
-      let h : length a ≡ 18 = ap length e ∙ lane-length coherent lane in
-      record {
-        first = record { size = h; low = w .ends };
-        second = record { size = ap length f ∙ chosen-length slicer a (laneBytes noncoherent lane) h (lane-length noncoherent lane); low = w .ends };
-      }
+  -- the named one, and the other or what stands in for it
+  pub lane-streams : (slicer : Slicer) (two : Bool) {a b : List ℕ} → b ≡ chosen slicer (laneBytes coherent lane) (laneBytes noncoherent lane)
+      → a ≡ cond two (chosen slicer b (laneBytes coherent lane)) b → Streams k a b bit
+  lane-streams slicer two {a} {b} e f =
+      let x = lane-length coherent lane in
+      let h : length b ≡ 18 = ap length e ∙ chosen-length slicer _ _ x (lane-length noncoherent lane) in
+      let g : length a ≡ 18 = ap length f ∙ either-length two _ _ (chosen-length slicer _ _ h x) h in
+      record { first = record { size = g; low = w .ends }; second = record { size = h; low = w .ends } }
 
   pub lane-reading : Right k → (level : ℕ) (p : Place) {c d : Found} {apart : Bool} {a b : ℕ} {t : Tried}
       → Known k level (laneBytes coherent lane) (laneBytes noncoherent lane) bit c d apart

@@ -17,8 +17,8 @@ use Prim.Native.Nat.{ℕ, _≤_, min}
 use native.Mathlib.Omega.{arith}
 use native.Mathlib.Nat.{min-le-left, min-comm}
 use native.Mathlib.Decide.{ℕ-discrete}
-use borrow.Author.Tests.{leb-true, ne-eqb}
-use lib.Dec.{leb}
+use borrow.Author.Tests.{leb-true, eq-eqb, ne-eqb}
+use lib.Dec.{leb, eqb}
 use lib.Ieee.{Float}
 use lib.Ieee.Scale.{finite}
 use Rattle.lists.specs.Told.{done, refused}
@@ -91,9 +91,11 @@ coherent-kept : (s : Settings) (m n : ℕ) (c : Candidate) → c .location .slic
 unfolding dropped
 coherent-kept s m n c e = rw e
 
-chosen-again : (slicer : Slicer) (a b : List ℕ) → chosen slicer a (chosen slicer a b) ≡ chosen slicer a b
-chosen-again Coherent a b = refl
-chosen-again Noncoherent a b = refl
+-- the stream that is named is there, whatever stands in for the other
+still-named : (slicer : Slicer) (two : Bool) (a b : List ℕ) → chosen slicer (cond two (chosen slicer (chosen slicer a b) a) (chosen slicer a b)) (chosen slicer a b) ≡ chosen slicer a b
+still-named Coherent true a b = refl
+still-named Coherent false a b = refl
+still-named Noncoherent two a b = refl
 
 -- the room of a message plays no part
 wide-kept : (k : Kind) (b : Bool) (c : Candidate) → survivorOf long (cond b none (some (wide k c))) ≡ heldOf k (cond b none (some c))
@@ -119,42 +121,48 @@ module _ (k : Kind) (w : Right k) (samples row : List Float) (coherent noncohere
   unfolding candidate seenAt
   candidate-is l eb em ep en ex = rw (ex, ep, en, em, eb)
 
-  -- ---- the stream of a slicer that is not named plays no part
+  -- ---- a stream that nobody looks at plays no part
 
+  -- the named slicer's
   abbrev named : Location → List ℕ
   named l = chosen (l .slicer) coherent noncoherent
 
-  named-candidate : (l : Location) → candidate (seenAt k samples row coherent (named l)) l ≡ candidate there l
+  -- the other: the coherent one where two positions are repaired in noncoherent bits, else the named one again
+  abbrev compared : Location → List ℕ
+  compared l = cond (eqb (count (l .repairs)) 2) (chosen (l .slicer) (named l) coherent) (named l)
+
+  named-candidate : (l : Location) → candidate (seenAt k samples row (compared l) (named l)) l ≡ candidate there l
   unfolding candidate seenAt
-  named-candidate l = rw (chosen-again (l .slicer) coherent noncoherent)
+  named-candidate l = rw (still-named (l .slicer) (eqb (count (l .repairs)) 2) coherent noncoherent)
 
-  -- in how many bits of a long message a stream differs from the coherent one
-  abbrev apartFrom : List ℕ → Location → ℕ
-  apartFrom stream l = differing (messageAt coherent 14 (l .place .bit)) (messageAt stream 14 (l .place .bit)) 112
+  -- in how many bits of a long message two streams differ
+  abbrev apart : List ℕ → List ℕ → Location → ℕ
+  apart a b l = differing (messageAt a 14 (l .place .bit)) (messageAt b 14 (l .place .bit)) 112
 
-  named-dropped : (s : Settings) (l : Location) (a : Candidate) → a .location ≡ l → dropped s (apartFrom (named l) l) a ≡ dropped s (apartFrom noncoherent l) a
-  named-dropped s l a e = go (l .slicer) (ap (λ (x : Location). x .slicer) e)
+  named-dropped : (s : Settings) (l : Location) (a : Candidate) → a .location ≡ l → count (l .repairs) ≡ 2
+      → dropped s (apart (compared l) (named l) l) a ≡ dropped s (apart coherent noncoherent l) a
+  named-dropped s l a e h = rw (eq-eqb (count (l .repairs)) 2 h) (go (l .slicer) (ap (λ (x : Location). x .slicer) e))
     where
-      go : (slicer : Slicer) → a .location .slicer ≡ slicer → dropped s (apartFrom (chosen slicer coherent noncoherent) l) a ≡ dropped s (apartFrom noncoherent l) a
-      go Coherent q = coherent-kept s (apartFrom coherent l) (apartFrom noncoherent l) a q
+      go : (slicer : Slicer) → a .location .slicer ≡ slicer
+          → dropped s (apart (chosen slicer (chosen slicer coherent noncoherent) coherent) (chosen slicer coherent noncoherent) l) a ≡ dropped s (apart coherent noncoherent l) a
+      go Coherent q = coherent-kept s (apart coherent coherent l) (apart coherent noncoherent l) a q
       go Noncoherent q = refl
 
   -- ---- what survives of a trial that passed
-  pub survived : (s : Settings) (l : Location) {a : Candidate} {x : Survivor} → (count (l .repairs) ≡ 2 → apartFrom noncoherent l ≡ there .distance (l .place))
-      → a ≡ wide k (candidate (seenAt k samples row coherent (named l)) l)
-      → x ≡ survivorOf long (cond (dropped s (apartFrom (named l) (a .location)) a) none (some a)) → x ≡ heldOf k (survivor s there (T.Pass l))
+  pub survived : (s : Settings) (l : Location) {a : Candidate} {x : Survivor} → (count (l .repairs) ≡ 2 → apart coherent noncoherent l ≡ there .distance (l .place))
+      → a ≡ wide k (candidate (seenAt k samples row (compared l) (named l)) l)
+      → x ≡ survivorOf long (cond (dropped s (apart (compared l) (named l) (a .location)) a) none (some a)) → x ≡ heldOf k (survivor s there (T.Pass l))
   unfolding survivor candidate
   survived s l {a} d ea ex =
       let e : a ≡ wide k (candidate there l) = ea ∙ ap (wide k) (named-candidate l) in
       let same : a .location ≡ l = ap (λ (c : Candidate). c .location) ea in
-      ex ∙ ap (λ (y : Location). survivorOf long (cond (dropped s (apartFrom (named l) y) a) none (some a))) same
-      ∙ ap (λ (b : Bool). survivorOf long (cond b none (some a))) (named-dropped s l a same)
+      ex ∙ ap (λ (y : Location). survivorOf long (cond (dropped s (apart (compared l) (named l) y) a) none (some a))) same
       ∙ rw (e, there-dropped) (wide-kept k (dropped s (there .distance (l .place)) (candidate there l)) (candidate there l))
     where
-      there-dropped : dropped s (apartFrom noncoherent l) (wide k (candidate there l)) ≡ dropped s (there .distance (l .place)) (candidate there l)
+      there-dropped : dropped s (apart (compared l) (named l) l) (wide k (candidate there l)) ≡ dropped s (there .distance (l .place)) (candidate there l)
       there-dropped = elim (ℕ-discrete (count (l .repairs)) 2) [
-        | yes h ↦ ap (λ (i : ℕ). dropped s i (wide k (candidate there l))) (d h) ∙ wide-dropped k s (there .distance (l .place)) (candidate there l)
-        | no h ↦ wide-dropped k s (apartFrom noncoherent l) (candidate there l) ∙ few-kept s (apartFrom noncoherent l) (there .distance (l .place)) (candidate there l) h
+        | yes h ↦ named-dropped s l (wide k (candidate there l)) refl h ∙ ap (λ (i : ℕ). dropped s i (wide k (candidate there l))) (d h) ∙ wide-dropped k s (there .distance (l .place)) (candidate there l)
+        | no h ↦ wide-dropped k s (apart (compared l) (named l) l) (candidate there l) ∙ few-kept s (apart (compared l) (named l) l) (there .distance (l .place)) (candidate there l) h
       ]
 
   module _ (p : Place) where

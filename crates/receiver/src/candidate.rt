@@ -1,8 +1,8 @@
 // The surviving reading of a place, from the row of its clock phase and the lane in which it lies.
 use crate::kinds::bytes_of;
 use crate::kinds::level_of;
+use crate::lanes::compared_lane;
 use crate::lanes::first_of;
-use crate::lanes::lane_of;
 use crate::lanes::named_lane;
 use crate::message::message_from_location;
 use crate::six::try_six;
@@ -148,7 +148,7 @@ fn survives(s: Settings, coherent: &[u8], noncoherent: &[u8], c: Candidate) -> S
     }
 }
 
-// What survives of a trial that passed. Only now the streams are made, and of them the noncoherent one only where its slicer is named.
+// What survives of a trial that passed. Only now streams are made, and only those that are looked at.
 fn read_location(
     kind: MessageKind,
     samples: &[f32],
@@ -163,13 +163,14 @@ fn read_location(
     ensures { λ r. ⌜ r ≡ heldOf (kindOf kind) (survivor s (seenAt (kindOf kind) (now (samples .entry)) (now (row .entry)) (laneBytes (now (coherent .entry)) lane) (laneBytes (now (noncoherent .entry)) lane)) (Pass location)) ⌝ }
 {
     let slicer = location.slicer;
-    let first = lane_of(coherent, lane);
-    let second = named_lane(slicer, first, noncoherent, lane);
+    let repairs = location.repairs;
+    let named = named_lane(slicer, coherent, noncoherent, lane);
+    let compared = compared_lane(slicer, repairs_of(repairs), named, coherent, lane);
     survives(
         s,
-        &first,
-        &second,
-        candidate_of(kind, samples, row, &first, &second, location),
+        &compared,
+        &named,
+        candidate_of(kind, samples, row, &compared, &named, location),
     )
 }
 

@@ -3,7 +3,9 @@ use place::Slicer;
 use scan::stream::find_first_byte;
 use scan::stream::find_stream;
 ghost use mathlib.Core.Path.{_≡_};
+ghost use mathlib.Core.Bool.{cond};
 ghost use Prim.Native.Nat.{_<_};
+ghost use lib.Dec.{eqb};
 ghost use lib.ListN.{length};
 ghost use Rattle.parts.specs.Part.{chosen};
 ghost use Rattle.scan.specs.Lanes.{laneBytes, byteFrom};
@@ -17,14 +19,35 @@ pub fn lane_of(bits: &[u8], lane: usize) -> [u8; 18]
     out
 }
 
-// The noncoherent slicer's stream, if it is named: where it is not, nobody looks at it, and the other one stands in.
-pub fn named_lane(slicer: Slicer, coherent: [u8; 18], noncoherent: &[u8], lane: usize) -> [u8; 18]
-    requires { ⌜ (length (now noncoherent) ≡ 1152) × (lane < 8) ⌝ }
-    ensures { λ r. ⌜ r ≡ chosen slicer coherent (laneBytes (now (noncoherent .entry)) lane) ⌝ }
+// The stream of the named slicer.
+pub fn named_lane(slicer: Slicer, coherent: &[u8], noncoherent: &[u8], lane: usize) -> [u8; 18]
+    requires { ⌜ (length (now coherent) ≡ 1152) × (length (now noncoherent) ≡ 1152) × (lane < 8) ⌝ }
+    ensures { λ r. ⌜ r ≡ chosen slicer (laneBytes (now (coherent .entry)) lane) (laneBytes (now (noncoherent .entry)) lane) ⌝ }
 {
     match slicer {
-        Slicer::Coherent => coherent,
+        Slicer::Coherent => lane_of(coherent, lane),
         Slicer::Noncoherent => lane_of(noncoherent, lane),
+    }
+}
+
+// The coherent stream where it is compared with a noncoherent one that is named, which is where two positions are repaired. Elsewhere nobody
+// looks at it, and the named one stands in.
+pub fn compared_lane(
+    slicer: Slicer,
+    repairs: u32,
+    named: [u8; 18],
+    coherent: &[u8],
+    lane: usize,
+) -> [u8; 18]
+    requires { ⌜ (length (now coherent) ≡ 1152) × (lane < 8) ⌝ }
+    ensures { λ r. ⌜ r ≡ cond (eqb repairs 2) (chosen slicer named (laneBytes (now (coherent .entry)) lane)) named ⌝ }
+{
+    if repairs != 2 {
+        return named;
+    }
+    match slicer {
+        Slicer::Coherent => named,
+        Slicer::Noncoherent => lane_of(coherent, lane),
     }
 }
 

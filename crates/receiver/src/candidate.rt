@@ -162,10 +162,8 @@ fn read_location(
     requires { ⌜ (length (now samples) ≡ 2310) × (length (now row) ≡ 576) × Lane (kindOf kind) (now coherent) (now noncoherent) lane (location .place .bit) × (settingsNumber s ≡ 0) × (locationNumber (kindOf kind .bytes) location ≡ 0) × (count (location .repairs) ≤ min (s .level) (kindOf kind .most)) ⌝ }
     ensures { λ r. ⌜ r ≡ heldOf (kindOf kind) (survivor s (seenAt (kindOf kind) (now (samples .entry)) (now (row .entry)) (laneBytes (now (coherent .entry)) lane) (laneBytes (now (noncoherent .entry)) lane)) (Pass location)) ⌝ }
 {
-    let slicer = location.slicer;
-    let repairs = location.repairs;
-    let named = named_lane(slicer, coherent, noncoherent, lane);
-    let compared = compared_lane(slicer, repairs_of(repairs), named, coherent, lane);
+    let named = named_lane(location, coherent, noncoherent, lane);
+    let compared = compared_lane(location, named, coherent, lane);
     survives(
         s,
         &compared,

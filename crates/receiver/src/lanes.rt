@@ -1,5 +1,7 @@
 // A lane of the bits by starting sample: its stream, and the first byte of a message in it.
+use annex10::repairs_of;
 use place::Slicer;
+use place::location::Location;
 use scan::stream::find_first_byte;
 use scan::stream::find_stream;
 ghost use mathlib.Core.Path.{_≡_};
@@ -7,6 +9,7 @@ ghost use mathlib.Core.Bool.{cond};
 ghost use Prim.Native.Nat.{_<_};
 ghost use lib.Dec.{eqb};
 ghost use lib.ListN.{length};
+ghost use Rattle.annex10.specs.Repair.{count};
 ghost use Rattle.parts.specs.Part.{chosen};
 ghost use Rattle.scan.specs.Lanes.{laneBytes, byteFrom};
 
@@ -19,11 +22,12 @@ pub fn lane_of(bits: &[u8], lane: usize) -> [u8; 18]
     out
 }
 
-// The stream of the named slicer.
-pub fn named_lane(slicer: Slicer, coherent: &[u8], noncoherent: &[u8], lane: usize) -> [u8; 18]
+// The stream of the slicer that a location names.
+pub fn named_lane(location: Location, coherent: &[u8], noncoherent: &[u8], lane: usize) -> [u8; 18]
     requires { ⌜ (length (now coherent) ≡ 1152) × (length (now noncoherent) ≡ 1152) × (lane < 8) ⌝ }
-    ensures { λ r. ⌜ r ≡ chosen slicer (laneBytes (now (coherent .entry)) lane) (laneBytes (now (noncoherent .entry)) lane) ⌝ }
+    ensures { λ r. ⌜ r ≡ chosen (location .slicer) (laneBytes (now (coherent .entry)) lane) (laneBytes (now (noncoherent .entry)) lane) ⌝ }
 {
+    let slicer = location.slicer;
     match slicer {
         Slicer::Coherent => lane_of(coherent, lane),
         Slicer::Noncoherent => lane_of(noncoherent, lane),
@@ -32,17 +36,13 @@ pub fn named_lane(slicer: Slicer, coherent: &[u8], noncoherent: &[u8], lane: usi
 
 // The coherent stream where it is compared with a noncoherent one that is named, which is where two positions are repaired. Elsewhere nobody
 // looks at it, and the named one stands in.
-pub fn compared_lane(
-    slicer: Slicer,
-    repairs: u32,
-    named: [u8; 18],
-    coherent: &[u8],
-    lane: usize,
-) -> [u8; 18]
+pub fn compared_lane(location: Location, named: [u8; 18], coherent: &[u8], lane: usize) -> [u8; 18]
     requires { ⌜ (length (now coherent) ≡ 1152) × (lane < 8) ⌝ }
-    ensures { λ r. ⌜ r ≡ cond (eqb repairs 2) (chosen slicer named (laneBytes (now (coherent .entry)) lane)) named ⌝ }
+    ensures { λ r. ⌜ r ≡ cond (eqb (count (location .repairs)) 2) (chosen (location .slicer) named (laneBytes (now (coherent .entry)) lane)) named ⌝ }
 {
-    if repairs != 2 {
+    let slicer = location.slicer;
+    let repairs = location.repairs;
+    if repairs_of(repairs) != 2 {
         return named;
     }
     match slicer {

@@ -1,4 +1,4 @@
-// The stream of a lane: every eighth of the bits by starting sample, eight to a byte.
+// Every eighth of the bits by starting sample, eight to a byte: the stream of a lane, and the first byte of a message.
 ghost use mathlib.Core.Path.{_≡_};
 ghost use Prim.Native.Nat.{_<_};
 ghost use lib.ListN.{length};

@@ -24,14 +24,13 @@ use Rattle.search.specs.Window.{_∈_, Window, Sized}
 use Rattle.search.specs.Choice.{candidate, candidateAt, scan, best}
 use Rattle.search.proofs.Passing.{readingOf}
 use Rattle.search.proofs.Scanning.{not-some, scan-none}
-use Rattle.search.proofs.Staging.{exact-first}
+use Rattle.search.proofs.Staging.{level-kept}
 use Rattle.search.proofs.Choosing.{scan-chosen}
 use Rattle.search.proofs.Choosing as scanned
 use Rattle.claims.specs.Fits.{cn0With, Holds}
 use Rattle.claims.specs.Chosen.{Places, Sooner, Held, Chosen}
 use Rattle.claims.specs.Calls.{NoneHeld}
-use Rattle.claims.specs.Audited.{atLevel}
-use Rattle.claims.specs.Searched.{Filled, Searched}
+use Rattle.claims.specs.Searched.{Filled, atLevel, Searched}
 use Rattle.claims.proofs.Fitting.{reads-first, keeps-first, one-first, holds-survives, survives-held, filled-is}
 
 -- ---- the order of the scan
@@ -189,8 +188,8 @@ module _ (kind : Kind) (s : Settings) (w : Window) (apart : Apart (kind .bytes))
 
   -- ---- the level
 
-  higher : (a : Candidate) → best kind s w ≡ some a → (l : ℕ) → s .level ≤ l → best kind (atLevel l s) w ≡ some a
-  higher a e l h = exact-first kind (atLevel l s) w (s .level) h e
+  any-level : (a : Candidate) → best kind s w ≡ some a → (m : ℕ) → count (a .location .repairs) ≤ m → best kind (atLevel m s) w ≡ some a
+  any-level a e m h = level-kept kind s w m e h
 
   -- ALL THAT IS CLAIMED OF A SEARCH
   pub searched : Searched kind s w
@@ -201,5 +200,5 @@ module _ (kind : Kind) (s : Settings) (w : Window) (apart : Apart (kind .bytes))
         nothing = nothing;
         returns = λ a. (found a, λ h. returned a (h .0) (h .1));
         one-chosen = one-chosen;
-        higher = higher;
+        any-level = any-level;
       }

@@ -28,29 +28,15 @@ use Rattle.search.specs.Window.{_∈_}
 use Rattle.search.specs.Choice.{best}
 use Rattle.search.specs.Seen.{bitsAt, windowOf, seen}
 use Rattle.search.specs.Answers.{answerOf, refusedAnswer, decodeOf}
-use Rattle.search.proofs.Scanning.{not-some}
 use Rattle.claims.specs.Bits.{firstHalf, secondHalf, slicerBit, coinToss}
 use Rattle.claims.specs.Fits.{Fits}
 use Rattle.claims.specs.Calls.{Accepted}
-use Rattle.claims.specs.Audited.{Received, Returned, Zeros, Answered, atLevel, Audited}
+use Rattle.claims.specs.Audited.{Received, Returned, Zeros, Answered, Audited}
 use Rattle.claims.proofs.Fitting.{first-lowest, not-silent}
 use Rattle.claims.proofs.Uses.{Sound, places-of, sized, search-of, heard-of, sound-long, sound-short}
 use Rattle.claims.proofs.Calls.{wrong-length, wrong-level, wrong-thresholds, wrong-index, nothing, something, ends, numbered}
 use Rattle.claims.proofs.Timing.{timed}
 use Rattle.claims.proofs.Only.{one-answer}
-
-module _ (kind : Kind) (samples : List Float) (s : Settings) (index : ℕ) where
-  -- an accepted call answers what the search finds
-  decode-found : Accepted samples s index → (c : Candidate) → best kind s (seen kind samples) ≡ some c
-      → decodeOf kind samples s index ≡ answerOf kind samples index c
-  decode-found a c b = elim (ends kind samples s index) [
-    | wrong-length l e ↦ absurd (l (a .0))
-    | wrong-level l v e ↦ absurd (v (a .1))
-    | wrong-thresholds l v f e ↦ absurd (f (a .2))
-    | wrong-index l v f i e ↦ absurd (i (a .3))
-    | nothing h n e ↦ not-some (sym n ∙ b)
-    | something h d q e ↦ let k : d ≡ c = cc in e ∙ ap (answerOf kind samples index) k
-  ]
 
 -- ---- the answer with number 0
 
@@ -184,26 +170,11 @@ module _ (kind : Kind) (sound : Sound kind) (samples : List Float) (s : Settings
   answered : Answered kind samples s index it
   answered = record { numbered = numbered kind sound samples s index; returned = beside .returned-is; zeros = beside .zeros; not-silent = speaks }
 
-  -- what is returned at an accepted level is returned at every higher one
-  higher : (m : ℕ) → it .number ≡ 0 → s .level ≤ m → m ≤ 2 → decodeOf kind samples (atLevel m s) index ≡ it
-  higher m z h k = elim (ends kind samples s index) [
-    | wrong-length l e ↦ absurd (not-zero 2 e (omega arith))
-    | wrong-level l v e ↦ absurd (not-zero 4 e (omega arith))
-    | wrong-thresholds l v f e ↦ absurd (not-zero 5 e (omega arith))
-    | wrong-index l v f i e ↦ absurd (not-zero 6 e (omega arith))
-    | nothing a b e ↦ absurd (not-zero 1 e (omega arith))
-    | something a c b e ↦ decode-found kind samples (atLevel m s) index (a .0, k, a .2, a .3) c (search-of kind sound samples s .higher c b m h) ∙ sym e
-  ]
-    where
-      not-zero : (n : ℕ) → it ≡ refusedAnswer kind n → 0 < n → ⊥
-      not-zero n e h = let q : it .number ≡ n = ap (λ (a : Answer). a .number) e in omega arith
-
 -- THE CLAIMS: where the contract `answer ≡ decodeOf kind samples s index` holds, all of them do
 audited-of : (kind : Kind) → Sound kind → Audited kind (decodeOf kind)
 audited-of kind sound =
     record {
       answered = answered kind sound;
-      higher = λ samples s index m z h k. higher kind sound samples s index m z (omega arith) k;
       only = λ samples s index b h. one-answer kind sound samples s index b (decodeOf kind samples s index) h (answered kind sound samples s index);
     }
 

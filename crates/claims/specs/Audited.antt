@@ -95,15 +95,8 @@ pub record Same (a b : Answer) : Type 0 where
   pub fraction : (eq (a .fraction) (b .fraction) ≡ true) ⊎ ((isNan (a .fraction) ≡ true) × (isNan (b .fraction) ≡ true))
   pub undecided : a .undecided ≡ b .undecided
 
--- the settings with another level
-abbrev pub atLevel : ℕ → Settings → Settings
-atLevel m s = record { level = m; threshold = s .threshold; second = s .second; distance = s .distance }
-
 -- ALL OF IT: `decode` is what a program answers.
 pub record Audited (kind : Kind) (decode : List Float → Settings → ℕ → Answer) : Type 0 where
   pub answered : (samples : List Float) (s : Settings) (index : ℕ) → Answered kind samples s index (decode samples s index)
-  -- 6. What is returned at one level is returned, all fields included, at every higher level.
-  pub higher : (samples : List Float) (s : Settings) (index m : ℕ) → decode samples s index .number ≡ 0 → s .level ≤ m → m ≤ 2
-      → decode samples (atLevel m s) index ≡ decode samples s index
-  -- 7. These claims leave nothing open: whatever else satisfies them is the same answer.
+  -- 6. These claims leave nothing open: whatever else satisfies them is the same answer.
   pub only : (samples : List Float) (s : Settings) (index : ℕ) (b : Answer) → Answered kind samples s index b → Same b (decode samples s index)

@@ -25,7 +25,6 @@ use Rattle.search.specs.Choice.{candidateAt, best}
 use Rattle.claims.specs.Fits.{permitted, Fits, FirstFit, cn0With, Dropped, Holds, OnlyRepair}
 use Rattle.claims.specs.Chosen.{Chosen}
 use Rattle.claims.specs.Calls.{NoneHeld}
-use Rattle.claims.specs.Audited.{atLevel}
 
 -- ---- the reading of a place
 
@@ -67,6 +66,10 @@ pub record KeepsFirst (kind : Kind) (s : Settings) (w : Window) (p : Place) : Ty
 
 -- ---- the search
 
+-- the settings with another level
+abbrev pub atLevel : ℕ → Settings → Settings
+atLevel m s = record { level = m; threshold = s .threshold; second = s .second; distance = s .distance }
+
 pub record Searched (kind : Kind) (s : Settings) (w : Window) : Type 0 where
   pub reads-first : (p : Place) → ReadsFirst kind s w p
   pub keeps-first : (p : Place) → KeepsFirst kind s w p
@@ -76,5 +79,5 @@ pub record Searched (kind : Kind) (s : Settings) (w : Window) : Type 0 where
       ↔ (Chosen kind s w (a .location .place) (a .location .slicer) (a .location .repairs) × Filled w (a .location .place) a)
   pub one-chosen : (p q : Place) (z y : Slicer) (ρ σ : Repairs) → Chosen kind s w p z ρ → Chosen kind s w q y σ
       → (p ≡ q) × (z ≡ y) × (ρ ≡ σ)
-  -- what is returned at one level is returned, all fields included, at every higher level
-  pub higher : (a : Candidate) → best kind s w ≡ some a → (m : ℕ) → s .level ≤ m → best kind (atLevel m s) w ≡ some a
+  -- what is returned at one level is returned, all fields included, at every level that permits its repairs
+  pub any-level : (a : Candidate) → best kind s w ≡ some a → (m : ℕ) → count (a .location .repairs) ≤ m → best kind (atLevel m s) w ≡ some a

@@ -96,11 +96,11 @@ by : {k l x y m n : ℕ} {a b : Answer} → x ≡ m → y ≡ n → SameSaid k l
 by {k} {l} {x} {y} {m} {n} {a} {b} p q s = subst (λ (z : ℕ). SameSaid k l m z a b) q (subst (λ (z : ℕ). SameSaid k l z y a b) p s)
 
 module _ (samples : List Float) (s : Settings) (i : ℕ) where
-  own-long : saidNumber 14 (decodeOf long samples s i) ≡ decodeOf long samples s i .number
+  pub own-long : saidNumber 14 (decodeOf long samples s i) ≡ decodeOf long samples s i .number
   unfolding long
   own-long = decode-own long (room-of long (inl refl)) samples s i
 
-  own-short : saidNumber 7 (decodeOf short samples s i) ≡ decodeOf short samples s i .number
+  pub own-short : saidNumber 7 (decodeOf short samples s i) ≡ decodeOf short samples s i .number
   unfolding short
   own-short = decode-own short (room-of short (inr refl)) samples s i
 

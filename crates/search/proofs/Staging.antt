@@ -1,4 +1,5 @@
 -- The search in stages: what needs no repair first.
+--     level-kept     what is found at one level is found at every level that permits its repairs
 --     exact-first    what is found at a lower level is what the search finds
 --     unasked, swap  a trial that is not asked for fails; two conditions of one, in either order
 --     exact-none     where nothing is held without repairs, no trial without repairs passes
@@ -35,7 +36,7 @@ use Rattle.search.proofs.Scanning.{whole, level-is, atMost, atMost-is, 
 abbrev pub atLevel : ℕ → Settings → Settings
 atLevel m s = record { level = m; threshold = s .threshold; second = s .second; distance = s .distance }
 
--- ---- what is found at a lower level
+-- ---- what is found at another level
 
 module _ (kind : Kind) (s : Settings) (w : Window) where
   same-survivor : (m : ℕ) (t : Tried) → survivor (atLevel m s) w t ≡ survivor s w t
@@ -49,10 +50,16 @@ module _ (kind : Kind) (s : Settings) (w : Window) where
       ap (λ (f : Place → Option Candidate). scan f none (placesOf kind))
       (fun-ext (λ p. same-survivor m (reading kind 2 p (w .bits Coherent p) (w .bits Noncoherent p))))
 
+  pub level-kept : (m : ℕ) {a : Candidate} → best kind s w ≡ some a → count (a .location .repairs) ≤ m → best kind (atLevel m s) w ≡ some a
+  level-kept m {a} e h =
+      let (q, n) = atMost-is (min (s .level) (kind .most)) (whole kind s w) (sym (level-is kind s w) ∙ e) in
+      level-is kind (atLevel m s) w ∙ ap (atMost (min m (kind .most))) (same-whole m ∙ q) ∙ atMost-kept (min m (kind .most)) a (omega arith)
+
+module _ (kind : Kind) (s : Settings) (w : Window) where
   pub exact-first : (m : ℕ) {a : Candidate} → m ≤ s .level → best kind (atLevel m s) w ≡ some a → best kind s w ≡ some a
   exact-first m {a} h e =
       let (q, n) = atMost-is (min m (kind .most)) (whole kind (atLevel m s) w) (sym (level-is kind (atLevel m s) w) ∙ e) in
-      level-is kind s w ∙ ap (atMost (min (s .level) (kind .most))) (sym (same-whole m) ∙ q) ∙ atMost-kept (min (s .level) (kind .most)) a (omega arith)
+      level-kept kind (atLevel m s) w (s .level) e (omega arith)
 
 -- ---- where no trial without repairs passes
 

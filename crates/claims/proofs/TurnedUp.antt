@@ -102,8 +102,8 @@ module _ {most : ℕ} {s t : Settings} {old new : Answer} where
 
 -- ---- the lines of a window, whose answers are said by their own numbers
 
-same-said : {a b : Answer} → a ≡ b → a .number ≡ b .number
-same-said e = ap (λ (x : Answer). x .number) e
+same-number : {a b : Answer} → a ≡ b → a .number ≡ b .number
+same-number e = ap (λ (x : Answer). x .number) e
 
 module _
     (s t : Settings) (k : ℕ) (K : k < 2 ^ 64) (a b c d : Answer)
@@ -115,20 +115,20 @@ module _
   long-refused : c ≡ a → 2 ≤ a .number → LinesStay s t k a b c d
   long-refused e z =
       same-lines
-      (two-searches k c d .refused (omega (arith, C, same-said e)) ∙ ap refusedLine (C ∙ same-said e ∙ sym A) ∙ sym (two-searches k a b .refused (omega (arith, A))))
+      (two-searches k c d .refused (omega (arith, C, same-number e)) ∙ ap refusedLine (C ∙ same-number e ∙ sym A) ∙ sym (two-searches k a b .refused (omega (arith, A))))
 
   short-refused : a .number ≤ 1 → c .number ≤ 1 → d ≡ b → 2 ≤ b .number → LinesStay s t k a b c d
   short-refused x y e z =
       same-lines
-      (two-searches k c d .refused-short (omega (arith, C)) (omega (arith, D, same-said e))
-      ∙ ap refusedLine (D ∙ same-said e ∙ sym B)
+      (two-searches k c d .refused-short (omega (arith, C)) (omega (arith, D, same-number e))
+      ∙ ap refusedLine (D ∙ same-number e ∙ sym B)
       ∙ sym (two-searches k a b .refused-short (omega (arith, A)) (omega (arith, B))))
 
   -- a short message was there, and a long one comes
   long-before : a .number ≡ 1 → d ≡ b → b .number ≡ 0 → Gained s t c → LinesStay s t k a b c d
   long-before x y z g =
       let old : windowLines k a b ≡ foundLine k d = two-searches k a b .short-alone x ∙ line-found 7 k b (B ∙ z) ∙ ap (foundLine k) (sym y) in
-      let new : windowLines k c d ≡ foundLine k c ++ foundLine k d = two-searches k c d .both (C ∙ g .0) (D ∙ same-said y ∙ z) in
+      let new : windowLines k c d ≡ foundLine k c ++ foundLine k d = two-searches k c d .both (C ∙ g .0) (D ∙ same-number y ∙ z) in
       record {
         stay = λ n. inr (inl (g, old, new ∙ ap (λ (l : List ℕ). foundLine k c ++ l) (sym old)));
         gain = λ e. absurd (omega (arith, two-searches k a b .none K .0 e .1));
@@ -138,7 +138,7 @@ module _
   short-behind : c ≡ a → a .number ≡ 0 → b .number ≡ 1 → Gained s t d → LinesStay s t k a b c d
   short-behind x z y g =
       let old : windowLines k a b ≡ foundLine k c = two-searches k a b .long-alone y ∙ line-found 14 k a (A ∙ z) ∙ ap (foundLine k) (sym x) in
-      let new : windowLines k c d ≡ foundLine k c ++ foundLine k d = two-searches k c d .both (C ∙ same-said x ∙ z) (D ∙ g .0) in
+      let new : windowLines k c d ≡ foundLine k c ++ foundLine k d = two-searches k c d .both (C ∙ same-number x ∙ z) (D ∙ g .0) in
       record {
         stay = λ n. inr (inr (g, old, new ∙ ap (λ (l : List ℕ). l ++ foundLine k d) (sym old)));
         gain = λ e. absurd (omega (arith, two-searches k a b .none K .0 e .0));
@@ -159,13 +159,13 @@ module _
     where
       go : (y : ℕ) → b .number ≡ y → LinesStay s t k a b c d
       go zero z = long-before o f z g
-      go (suc zero) z = from-none o z (inl (g, two-searches k c d .long-alone (same-said f ∙ z) ∙ line-found 14 k c (C ∙ g .0)))
+      go (suc zero) z = from-none o z (inl (g, two-searches k c d .long-alone (same-number f ∙ z) ∙ line-found 14 k c (C ∙ g .0)))
       go (suc (suc y)) z = short-refused (omega arith) (omega (arith, g .0)) f (omega arith)
   lines-stay (stays e) (gains p h j) = go (a .number) refl
     where
       go : (x : ℕ) → a .number ≡ x → LinesStay s t k a b c d
       go zero z = short-behind e z p h
-      go (suc zero) z = from-none z p (inr (inl (h, two-searches k c d .short-alone (same-said e ∙ z) ∙ line-found 7 k d (D ∙ h .0))))
+      go (suc zero) z = from-none z p (inr (inl (h, two-searches k c d .short-alone (same-number e ∙ z) ∙ line-found 7 k d (D ∙ h .0))))
       go (suc (suc x)) z = long-refused e (omega arith)
 
 -- ---- all of it

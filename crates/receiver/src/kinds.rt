@@ -29,6 +29,7 @@ ghost use Rattle.place.specs.Agrees.{locationNumber, neighbourTold, earlierLoca
 ghost use Rattle.parts.specs.Part.{symbolsFor, samplesFor};
 ghost use Rattle.repairs.specs.Codes.{codesUpToInto};
 ghost use Rattle.scan.specs.Exact.{exactInto};
+ghost use Rattle.sieve.specs.Hash.{Hashed};
 ghost use Rattle.sieve.specs.Repairable.{repairableInto};
 ghost use Rattle.receiver.specs.Inner.{kindOf, leadOf};
 
@@ -144,20 +145,39 @@ pub fn exact_places(
     }
 }
 
-// The places that repairs can clear, and what clears them.
+// The places that repairs can clear, and what clears them. A hash may be lent.
 pub fn repairable_places(
     kind: MessageKind,
     level: u32,
+    displacements: &[u8],
+    owners: &[u16],
     crcs: &[u32],
     others: &[u32],
     list: &mut [u16],
     codes: &mut [u32],
 ) -> Listed
+    requires { ⌜ Hashed (now displacements) (now owners) ⌝ }
     ensures { λ r. ⌜ (r, now (list .exit), now (codes .exit)) ≡ repairableInto (kindOf kind .bytes) (kindOf kind .most) (8 * kindOf kind .last) level (now (crcs .entry)) (now (others .entry)) (now (list .entry)) (now (codes .entry)) ⌝ }
 {
     match kind {
-        MessageKind::Long => find_repairable(level, crcs, others, list, codes),
-        MessageKind::Short => find_repairable_short(level, crcs, others, list, codes),
+        MessageKind::Long => find_repairable(
+            level,
+            displacements,
+            owners,
+            crcs,
+            others,
+            list,
+            codes,
+        ),
+        MessageKind::Short => find_repairable_short(
+            level,
+            displacements,
+            owners,
+            crcs,
+            others,
+            list,
+            codes,
+        ),
     }
 }
 

@@ -1,4 +1,5 @@
 // From a window of samples to the answer.
+mod answer;
 mod candidate;
 mod codes;
 pub mod decode;

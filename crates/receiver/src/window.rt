@@ -26,6 +26,7 @@ ghost use Rattle.search.specs.Kinds.{long, short};
 ghost use Rattle.search.specs.Seen.{seen};
 ghost use Rattle.search.specs.Answers.{settingsNumber};
 ghost use Rattle.search.proofs.Staging.{atLevel};
+ghost use Rattle.sieve.specs.Hash.{Hashed};
 ghost use Rattle.receiver.specs.Inner.{Scanned, Listing, kindOf, heldOf, over};
 
 // The best of the places in a list. Only here the symbols are set out.
@@ -111,14 +112,25 @@ fn repaired_best(
     noncoherent: &[u8],
     crcs: &[u32],
     others: &[u32],
+    displacements: &[u8],
+    owners: &[u16],
     list: &mut [u16],
     codes: &mut [u32],
     s: Settings,
 ) -> Survivor
-    requires { ⌜ Scanned (kindOf kind) (now samples) (now coherent) (now noncoherent) (now crcs) (now others) × (settingsNumber s ≡ 0) × (best (kindOf kind) (atLevel 0 s) (seen (kindOf kind) (now samples)) ≡ none) × (now sums ≡ sumsOf (now samples)) × (length (now list) ≡ 8 * kindOf kind .last) × (length (now codes) ≡ 16 * kindOf kind .last) ⌝ }
+    requires { ⌜ Scanned (kindOf kind) (now samples) (now coherent) (now noncoherent) (now crcs) (now others) × (settingsNumber s ≡ 0) × (best (kindOf kind) (atLevel 0 s) (seen (kindOf kind) (now samples)) ≡ none) × (now sums ≡ sumsOf (now samples)) × (length (now list) ≡ 8 * kindOf kind .last) × (length (now codes) ≡ 16 * kindOf kind .last) × Hashed (now displacements) (now owners) ⌝ }
     ensures { λ r. ⌜ r ≡ heldOf (kindOf kind) (best (kindOf kind) s (seen (kindOf kind) (now (samples .entry)))) ⌝ }
 {
-    let listed = repairable_places(kind, s.level, crcs, others, list, codes);
+    let listed = repairable_places(
+        kind,
+        s.level,
+        displacements,
+        owners,
+        crcs,
+        others,
+        list,
+        codes,
+    );
     if listed.count == 0 {
         return nothing();
     }
@@ -146,11 +158,13 @@ fn in_stages(
     noncoherent: &[u8],
     crcs: &[u32],
     others: &[u32],
+    displacements: &[u8],
+    owners: &[u16],
     list: &mut [u16],
     codes: &mut [u32],
     s: Settings,
 ) -> Survivor
-    requires { ⌜ Scanned (kindOf kind) (now samples) (now coherent) (now noncoherent) (now crcs) (now others) × (settingsNumber s ≡ 0) × (now sums ≡ sumsOf (now samples)) × (length (now list) ≡ 8 * kindOf kind .last) × (now codes ≡ replicate (16 * kindOf kind .last) 0) ⌝ }
+    requires { ⌜ Scanned (kindOf kind) (now samples) (now coherent) (now noncoherent) (now crcs) (now others) × (settingsNumber s ≡ 0) × (now sums ≡ sumsOf (now samples)) × (length (now list) ≡ 8 * kindOf kind .last) × (now codes ≡ replicate (16 * kindOf kind .last) 0) × Hashed (now displacements) (now owners) ⌝ }
     ensures { λ r. ⌜ r ≡ heldOf (kindOf kind) (best (kindOf kind) s (seen (kindOf kind) (now (samples .entry)))) ⌝ }
 {
     let exact = exact_best(
@@ -179,6 +193,8 @@ fn in_stages(
         noncoherent,
         crcs,
         others,
+        displacements,
+        owners,
         list,
         codes,
         s,
@@ -193,9 +209,11 @@ fn best_long(
     noncoherent: &[u8],
     crcs: &[u32],
     others: &[u32],
+    displacements: &[u8],
+    owners: &[u16],
     s: Settings,
 ) -> Survivor
-    requires { ⌜ Scanned long (now samples) (now coherent) (now noncoherent) (now crcs) (now others) × (settingsNumber s ≡ 0) × (now sums ≡ sumsOf (now samples)) ⌝ }
+    requires { ⌜ Scanned long (now samples) (now coherent) (now noncoherent) (now crcs) (now others) × (settingsNumber s ≡ 0) × (now sums ≡ sumsOf (now samples)) × Hashed (now displacements) (now owners) ⌝ }
     ensures { λ r. ⌜ r ≡ heldOf long (best long s (seen long (now (samples .entry)))) ⌝ }
 {
     let mut list = [0u16; 248];
@@ -208,6 +226,8 @@ fn best_long(
         noncoherent,
         crcs,
         others,
+        displacements,
+        owners,
         &mut list,
         &mut codes,
         s,
@@ -221,9 +241,11 @@ fn best_short(
     noncoherent: &[u8],
     crcs: &[u32],
     others: &[u32],
+    displacements: &[u8],
+    owners: &[u16],
     s: Settings,
 ) -> Survivor
-    requires { ⌜ Scanned short (now samples) (now coherent) (now noncoherent) (now crcs) (now others) × (settingsNumber s ≡ 0) × (now sums ≡ sumsOf (now samples)) ⌝ }
+    requires { ⌜ Scanned short (now samples) (now coherent) (now noncoherent) (now crcs) (now others) × (settingsNumber s ≡ 0) × (now sums ≡ sumsOf (now samples)) × Hashed (now displacements) (now owners) ⌝ }
     ensures { λ r. ⌜ r ≡ heldOf short (best short s (seen short (now (samples .entry)))) ⌝ }
 {
     let mut list = [0u16; 696];
@@ -236,6 +258,8 @@ fn best_short(
         noncoherent,
         crcs,
         others,
+        displacements,
+        owners,
         &mut list,
         &mut codes,
         s,
@@ -243,8 +267,14 @@ fn best_short(
 }
 
 // The best of all places of long messages. The sums stay for the timing of what is found.
-pub fn best_of(samples: &[f32], sums: &mut [f32], s: Settings) -> Survivor
-    requires { ⌜ (length (now samples) ≡ 2310) × (settingsNumber s ≡ 0) × (length (now sums) ≡ 2304) ⌝ }
+pub fn best_of(
+    samples: &[f32],
+    sums: &mut [f32],
+    displacements: &[u8],
+    owners: &[u16],
+    s: Settings,
+) -> Survivor
+    requires { ⌜ (length (now samples) ≡ 2310) × (settingsNumber s ≡ 0) × (length (now sums) ≡ 2304) × Hashed (now displacements) (now owners) ⌝ }
     ensures { λ r. ⌜ (r ≡ heldOf long (best long s (seen long (now (samples .entry))))) × (now (sums .exit) ≡ sumsOf (now (samples .entry))) ⌝ }
 {
     let mut coherent = [0u8; 1152];
@@ -259,7 +289,17 @@ pub fn best_of(samples: &[f32], sums: &mut [f32], s: Settings) -> Survivor
         &mut crcs,
         &mut others,
     );
-    best_long(samples, sums, &coherent, &noncoherent, &crcs, &others, s)
+    best_long(
+        samples,
+        sums,
+        &coherent,
+        &noncoherent,
+        &crcs,
+        &others,
+        displacements,
+        owners,
+        s,
+    )
 }
 
 // Of short ones.
@@ -279,7 +319,17 @@ pub fn best_of_short(samples: &[f32], sums: &mut [f32], s: Settings) -> Survivor
         &mut crcs,
         &mut others,
     );
-    best_short(samples, sums, &coherent, &noncoherent, &crcs, &others, s)
+    best_short(
+        samples,
+        sums,
+        &coherent,
+        &noncoherent,
+        &crcs,
+        &others,
+        &[],
+        &[],
+        s,
+    )
 }
 
 pub struct Both {
@@ -288,8 +338,14 @@ pub struct Both {
 }
 
 // Of both: sums and bits are made once.
-pub fn best_of_both(samples: &[f32], sums: &mut [f32], s: Settings) -> Both
-    requires { ⌜ (length (now samples) ≡ 2310) × (settingsNumber s ≡ 0) × (length (now sums) ≡ 2304) ⌝ }
+pub fn best_of_both(
+    samples: &[f32],
+    sums: &mut [f32],
+    displacements: &[u8],
+    owners: &[u16],
+    s: Settings,
+) -> Both
+    requires { ⌜ (length (now samples) ≡ 2310) × (settingsNumber s ≡ 0) × (length (now sums) ≡ 2304) × Hashed (now displacements) (now owners) ⌝ }
     ensures { λ r. ⌜ (r .long ≡ heldOf long (best long s (seen long (now (samples .entry))))) × (r .short ≡ heldOf short (best short s (seen short (now (samples .entry))))) × (now (sums .exit) ≡ sumsOf (now (samples .entry))) ⌝ }
 {
     let mut coherent = [0u8; 1152];
@@ -308,7 +364,17 @@ pub fn best_of_both(samples: &[f32], sums: &mut [f32], s: Settings) -> Both
         &mut short_crcs,
         &mut short_others,
     );
-    let long = best_long(samples, sums, &coherent, &noncoherent, &crcs, &others, s);
+    let long = best_long(
+        samples,
+        sums,
+        &coherent,
+        &noncoherent,
+        &crcs,
+        &others,
+        displacements,
+        owners,
+        s,
+    );
     let short = best_short(
         samples,
         sums,
@@ -316,6 +382,8 @@ pub fn best_of_both(samples: &[f32], sums: &mut [f32], s: Settings) -> Both
         &noncoherent,
         &short_crcs,
         &short_others,
+        displacements,
+        owners,
         s,
     );
     Both { long, short }

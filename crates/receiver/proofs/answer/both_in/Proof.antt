@@ -1,4 +1,4 @@
--- `receiver::decode::decode_both` meets its contract. Assumes nothing.
+-- `receiver::answer::both_in` meets its contract. Assumes nothing.
 use mathlib.Core.Path.{refl, ap, _∙_}
 use Rattle.search.specs.Kinds.{long, short}
 use Rattle.search.specs.Short.{shortAnswer}
@@ -7,8 +7,8 @@ use Rattle.receiver.proofs.EitherKind.{right-long, right-short}
 use Rattle.receiver.proofs.Deciding.{decode-taken, decode-refused, answer-asks, decoded-long, decoded-short, both-are}
 use Rattle.receiver.proofs.Widening.{refused-short}
 use borrow.Author.Needs.{needs}
-use Rattle.receiver.proofs.decode.decode_both.Statement.{statement}
-use Rattle.receiver.proofs.decode.decode_both.Tie as tie
+use Rattle.receiver.proofs.answer.both_in.Statement.{statement}
+use Rattle.receiver.proofs.answer.both_in.Tie as tie
 
 decode-number-requires : tie.Need-decode-number-requires
 decode-number-requires c κs = search needs
@@ -71,8 +71,8 @@ returns-2 c =
     (decoded-long (a .samples .now) (a .s) (a .index) e z (x .2) (x .0) (c .before .before .before .answer-of .ensures))
     (c .narrow-answer2 .ensures ∙ ap shortAnswer (decoded-short (a .samples .now) (a .s) (a .index) e z (x .2) (x .1) (c .before .answer-of2 .ensures)))
 
-pub decode-both-spec : {M : Type 1} → statement M
-decode-both-spec =
+pub both-in-spec : {M : Type 1} → statement M
+both-in-spec =
     tie.close
     (tie.spec
     decode-number-requires

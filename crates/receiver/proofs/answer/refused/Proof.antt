@@ -1,8 +1,8 @@
--- `receiver::decode::refused` meets its contract. Assumes nothing.
+-- `receiver::answer::refused` meets its contract. Assumes nothing.
 use Rattle.search.specs.Kinds.{long}
 use borrow.Author.Needs.{needs}
-use Rattle.receiver.proofs.decode.refused.Statement.{statement}
-use Rattle.receiver.proofs.decode.refused.Tie as tie
+use Rattle.receiver.proofs.answer.refused.Statement.{statement}
+use Rattle.receiver.proofs.answer.refused.Tie as tie
 
 nowhere-requires : tie.Need-nowhere-requires
 nowhere-requires c κs = search needs

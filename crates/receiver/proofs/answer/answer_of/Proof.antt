@@ -1,4 +1,4 @@
--- `receiver::decode::answer_of` meets its contract: what is found lies at a place that is searched, so it can be timed. Assumes nothing.
+-- `receiver::answer::answer_of` meets its contract: what is found lies at a place that is searched, so it can be timed. Assumes nothing.
 use mathlib.Core.Path.{_≡_, refl, sym, ap, _∙_}
 use Prim.Native.Nat.{_≤_}
 use native.Mathlib.Omega.{arith}
@@ -8,8 +8,8 @@ use Rattle.receiver.specs.Inner.{kindOf}
 use Rattle.receiver.proofs.EitherKind.{right}
 use Rattle.receiver.proofs.Deciding.{symbols-set, set-length, weighed-there, answer-none, answer-timed}
 use borrow.Author.Needs.{needs}
-use Rattle.receiver.proofs.decode.answer_of.Statement.{statement}
-use Rattle.receiver.proofs.decode.answer_of.Tie as tie
+use Rattle.receiver.proofs.answer.answer_of.Statement.{statement}
+use Rattle.receiver.proofs.answer.answer_of.Tie as tie
 
 refused-requires : tie.Need-refused-requires
 refused-requires c κs = search needs

@@ -1,11 +1,11 @@
--- `receiver::decode::decode` meets its contract. Assumes nothing.
+-- `receiver::answer::decode_in` meets its contract. Assumes nothing.
 use mathlib.Core.Path.{refl}
 use Rattle.search.specs.Kinds.{long}
 use Rattle.receiver.proofs.EitherKind.{right-long}
 use Rattle.receiver.proofs.Deciding.{decode-taken, decode-refused, answer-asks, decoded-long}
 use borrow.Author.Needs.{needs}
-use Rattle.receiver.proofs.decode.decode.Statement.{statement}
-use Rattle.receiver.proofs.decode.decode.Tie as tie
+use Rattle.receiver.proofs.answer.decode_in.Statement.{statement}
+use Rattle.receiver.proofs.answer.decode_in.Tie as tie
 
 decode-number-requires : tie.Need-decode-number-requires
 decode-number-requires c κs = search needs
@@ -42,8 +42,8 @@ returns-2 c =
     let x = c .before .before .before .best-of .ensures in
     decoded-long (a .samples .now) (a .s) (a .index) (c .before .before .before .before .before .before .decode-number .ensures) (c .before .before .before .before .before .if1 .left) (x .1) (x .0) (c .answer-of .ensures)
 
-pub decode-spec : {M : Type 1} → statement M
-decode-spec =
+pub decode-in-spec : {M : Type 1} → statement M
+decode-in-spec =
     tie.close
     (tie.spec
     decode-number-requires

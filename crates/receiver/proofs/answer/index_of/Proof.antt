@@ -1,4 +1,4 @@
--- `receiver::decode::index_of` meets its contract: nothing wraps, since a place that is searched starts with sample 8 at least.
+-- `receiver::answer::index_of` meets its contract: nothing wraps, since a place that is searched starts with sample 8 at least.
 -- Assumes nothing.
 use mathlib.Core.Path.{subst}
 use native.Mathlib.Omega.{arith}
@@ -8,8 +8,8 @@ use Rattle.timing.specs.declared.Moves.{Moves}
 use Rattle.timing.specs.Inner.{movesCount}
 use Rattle.search.specs.When.{indexOf}
 use borrow.Author.Needs.{needs}
-use Rattle.receiver.proofs.decode.index_of.Statement.{statement}
-use Rattle.receiver.proofs.decode.index_of.Tie as tie
+use Rattle.receiver.proofs.answer.index_of.Statement.{statement}
+use Rattle.receiver.proofs.answer.index_of.Tie as tie
 
 mul-start : tie.Need-mul-start
 mul-start c = let l = listed-gives 87 (c .before .args .place) (c .before .pre .2) in omega arith

@@ -1,12 +1,12 @@
--- `receiver::decode::time_in` meets its contract: no more than two samples move.
+-- `receiver::answer::time_in` meets its contract: no more than two samples move.
 -- Assumes nothing.
 use Rattle.receiver.specs.Inner.{kindOf, seenIn}
 use Rattle.receiver.proofs.EitherKind.{right}
 use Rattle.receiver.proofs.Prompting.{listed-most}
 use Rattle.receiver.proofs.Deciding.{moves-few, timed-is}
 use borrow.Author.Needs.{needs}
-use Rattle.receiver.proofs.decode.time_in.Statement.{statement}
-use Rattle.receiver.proofs.decode.time_in.Tie as tie
+use Rattle.receiver.proofs.answer.time_in.Statement.{statement}
+use Rattle.receiver.proofs.answer.time_in.Tie as tie
 
 subsample-requires : tie.Need-subsample-requires
 subsample-requires c κs = search needs

@@ -15,7 +15,8 @@ use Rattle.search.specs.declared.BothAnswers.{BothAnswers}
 use Rattle.search.specs.Kinds.{Kind, long, short}
 use Rattle.search.specs.Answers.{orNumber, decodeOf}
 use Rattle.search.specs.Short.{shortAnswer, ofShort}
-use Rattle.khlongrae.specs.Flat.{Lent, Written, holding, filled, written, writtenOr, lentNumber, decodeInto, beside, bothInto}
+use Rattle.rows.specs.Rows.{Lent}
+use Rattle.khlongrae.specs.Flat.{Written, holding, filled, written, writtenOr, lentNumber, decodeInto, beside, bothInto}
 
 -- ---- number 0 says that the lengths are right
 

@@ -1,58 +1,20 @@
--- The answer of a decode as rows of numbers in lent memory.
+-- A decode into lent memory, whose answer lies there as rows of numbers.
 -- Assumes nothing.
 use mathlib.Core.Bool.{_&&_, cond}
-use mathlib.Core.List.{List, [], _∷_}
+use mathlib.Core.List.{List}
 use Prim.Native.Nat.{ℕ}
 use lib.Dec.{eqb}
 use lib.ListN.{length}
 use lib.Ieee.{Float}
-use Rattle.annex10.specs.declared.Repairs.{Repairs}
-use Rattle.annex10.specs.declared.Repairs.the-variants.{None, One, Two}
-use Rattle.annex10.specs.Repair.{count}
-use Rattle.place.specs.declared.Slicer.{Slicer}
-use Rattle.place.specs.declared.Slicer.the-variants.{Coherent, Noncoherent}
-use Rattle.place.specs.declared.location.Location.{Location}
 use Rattle.search.specs.declared.Settings.{Settings}
 use Rattle.search.specs.declared.Answer.{Answer}
 use Rattle.search.specs.Kinds.{Kind, long, short}
 use Rattle.search.specs.Answers.{orNumber, decodeOf}
+use Rattle.rows.specs.Rows.{wordsOf, numbersOf, Lent}
 use Rattle.khlongrae.specs.declared.decode.FlatBoth.{FlatBoth}
 
 abbrev pub settingsOf : ℕ → Float → Float → ℕ → Settings
 settingsOf level threshold second distance = record { level = level; threshold = threshold; second = second; distance = distance }
-
--- the positions of a repair, 0 where there is none
-abbrev pub firstOf : Repairs → ℕ
-firstOf None = 0
-firstOf (One j) = j
-firstOf (Two j k) = j
-
-abbrev pub secondOf : Repairs → ℕ
-secondOf None = 0
-secondOf (One j) = 0
-secondOf (Two j k) = k
-
--- coherent is 0, noncoherent 1
-abbrev pub slicerCode : Slicer → ℕ
-slicerCode Coherent = 0
-slicerCode Noncoherent = 1
-
--- index, bit offset, clock phase, symbol offset, how many repairs, the two positions, the slicer, how many bits were undecided, the trial
-abbrev pub rowOf : ℕ → Location → ℕ → List ℕ
-rowOf index l undecided =
-    index ∷ l .place .bit ∷ l .place .phase ∷ l .place .symbol
-    ∷ count (l .repairs) ∷ firstOf (l .repairs) ∷ secondOf (l .repairs) ∷ slicerCode (l .slicer) ∷ undecided ∷ l .trial ∷ []
-
-abbrev pub wordsOf : Answer → List ℕ
-wordsOf a = rowOf (a .index) (a .location) (a .undecided)
-
--- cn0 and the fraction
-abbrev pub numbersOf : Answer → List Float
-numbersOf a = a .cn0 ∷ a .fraction ∷ []
-
--- lent memory: the bytes of a message, whole numbers, floats
-abbrev pub Lent : Type 0
-Lent = List ℕ × List ℕ × List Float
 
 -- a number, and what the lent memory holds
 abbrev pub Written : Type 0

@@ -1,8 +1,6 @@
 // The library for C and Rust. A slice is a pointer and a length; a struct is answered by value.
 pub mod address;
-mod copies;
 pub mod decode;
-mod flat;
 pub mod header;
 pub mod message;
 mod settings;

@@ -1,8 +1,6 @@
 // An answer in lent memory.
-use crate::copies::put_bytes;
-use crate::copies::put_numbers;
-use crate::copies::put_words;
-use crate::flat::words_of;
+use rows::put_fields;
+use rows::row::words_of;
 use search::Answer;
 use search::ShortAnswer;
 ghost use mathlib.Core.Path.{_≡_};
@@ -26,10 +24,7 @@ fn fill(
     if number != 0 {
         return number;
     }
-    put_bytes(found, message);
-    put_words(row, words);
-    put_numbers(pair, numbers);
-    0
+    put_fields(found, row, pair, message, words, numbers)
 }
 
 // An answer: number 0 with its message, words and numbers, or a number that leaves the memory as it was.

@@ -1,7 +1,7 @@
--- `khlongrae::flat::words_of` meets its contract. Assumes nothing.
+-- `rows::row::words_of` meets its contract. Assumes nothing.
 use borrow.Author.Needs.{needs}
-use Rattle.khlongrae.proofs.flat.words_of.Statement.{statement}
-use Rattle.khlongrae.proofs.flat.words_of.Tie as tie
+use Rattle.rows.proofs.row.words_of.Statement.{statement}
+use Rattle.rows.proofs.row.words_of.Tie as tie
 
 repairs-of-requires : tie.Need-repairs-of-requires
 repairs-of-requires c κs = search needs

@@ -1,4 +1,4 @@
--- `khlongrae::copies::put_numbers` meets its contract. The loop: the first i elements are copied. Assumes nothing.
+-- `rows::copies::put_numbers` meets its contract. The loop: the first i elements are copied. Assumes nothing.
 use Prim.Native.Nat.{ℕ, _-_, _≤_}
 use lib.ListN.{getD}
 use lib.Ieee.{nan}
@@ -6,8 +6,8 @@ use Rattle.lists.proofs.Table.{Done, done-none, done-more, copied}
 use native.Mathlib.Omega.{arith}
 use borrow.Author.Needs.{needs}
 use mathlib.Core.Path.{refl}
-use Rattle.khlongrae.proofs.copies.put_numbers.Statement.{statement}
-use Rattle.khlongrae.proofs.copies.put_numbers.Tie as tie
+use Rattle.rows.proofs.copies.put_numbers.Statement.{statement}
+use Rattle.rows.proofs.copies.put_numbers.Tie as tie
 
 abbrev Inv-loop : tie.InvT-loop
 Inv-loop to₀ from i₀ to i = (i ≤ 2) × Done nan (λ (k : ℕ). getD from k nan) 2 to i

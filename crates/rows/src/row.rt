@@ -1,10 +1,10 @@
-// An answer as rows of numbers.
+// The whole numbers of an answer as one row.
 use annex10::Repairs;
 use annex10::repairs_of;
 use place::Slicer;
 use place::location::Location;
 ghost use mathlib.Core.Path.{_≡_};
-ghost use Rattle.khlongrae.specs.Flat.{firstOf, secondOf, slicerCode, rowOf};
+ghost use Rattle.rows.specs.Rows.{firstOf, secondOf, slicerCode, rowOf};
 
 fn first_of(repairs: Repairs) -> u64
     ensures { λ r. ⌜ r ≡ firstOf repairs ⌝ }

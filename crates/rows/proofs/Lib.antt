@@ -1,0 +1,2 @@
+pub mod Beside
+pub mod Laid

@@ -5,5 +5,6 @@ pub mod header;
 pub mod message;
 mod settings;
 pub mod spectrum;
+pub mod tray;
 pub mod version;
 mod written;

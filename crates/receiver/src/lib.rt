@@ -11,6 +11,7 @@ mod narrow;
 mod refusals;
 mod six;
 mod subsample;
+pub mod tray;
 mod trial;
 pub mod trials;
 mod undecided;

@@ -11,7 +11,7 @@ use native.Mathlib.Numerals.{add-one}
 use native.Mathlib.Omega.{arith}
 use lib.ListN.{length, take, drop, length-append, length-drop}
 use lib.Seq.{length-take-le, take-all, take-at, drop-at, take-append-le, drop-append-le, take-append-add}
-use Rattle.rows.specs.Rows.{rowsOf}
+use Rattle.rows.specs.Rows.{rowsOf, withRow}
 
 -- row k of n ends within them
 ends : (w n k : ℕ) → k < n → w * k + w ≤ w * n
@@ -49,7 +49,7 @@ module _ {A : Type 0} where
   beside-none w n f xs e = record { size = e; rows = rw (mul-zero w) }
 
   pub beside-more : (w n k : ℕ) (f : ℕ → List A) (xs ys : List A) → k < n → Beside w f n xs k → ys ≡ f k → length ys ≡ w
-      → Beside w f n (take (w * k) xs ++ (ys ++ drop w (drop (w * k) xs))) (k + 1)
+      → Beside w f n (withRow w k ys xs) (k + 1)
   unfolding rowsOf
   beside-more w n k f xs ys h b e l =
       let s = b .size in

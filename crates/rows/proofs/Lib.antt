@@ -1,2 +1,3 @@
 pub mod Beside
 pub mod Laid
+pub mod Sizes

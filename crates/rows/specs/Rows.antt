@@ -2,9 +2,9 @@
 -- Assumes nothing.
 use mathlib.Core.Bool.{_&&_, cond}
 use mathlib.Core.List.{List, [], _∷_, _++_}
-use Prim.Native.Nat.{ℕ, zero, suc}
+use Prim.Native.Nat.{ℕ, zero, suc, _*_}
 use lib.Dec.{eqb}
-use lib.ListN.{length, take}
+use lib.ListN.{length, take, drop}
 use lib.Ieee.{Float}
 use Rattle.annex10.specs.declared.Repairs.{Repairs}
 use Rattle.annex10.specs.declared.Repairs.the-variants.{None, One, Two}
@@ -68,3 +68,7 @@ resultInto a (message, words, floats) =
 unfoldable pub rowsOf : {A : Type 0} → (ℕ → List A) → ℕ → List A
 rowsOf f zero = []
 rowsOf f (suc n) = rowsOf f n ++ f n
+
+-- memory in which row k of width w is written, and all else as it was
+abbrev pub withRow : {A : Type 0} → ℕ → ℕ → List A → List A → List A
+withRow w k row xs = take (w * k) xs ++ (row ++ drop w (drop (w * k) xs))

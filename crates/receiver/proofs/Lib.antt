@@ -16,3 +16,4 @@ pub mod Listed
 pub mod Stages
 pub mod Repaired
 pub mod Taking
+pub mod Traying

@@ -7,26 +7,45 @@ use rows::put_result;
 use search::Settings;
 use sieve::hash::write_hash;
 ghost use mathlib.Core.Path.{_≡_};
-ghost use mathlib.Core.Bool.{true, false};
+ghost use mathlib.Core.Bool.{true, false, _&&_};
 ghost use mathlib.Core.List.{_++_};
 ghost use Prim.Native.Nat.{_*_, _<_, _≤_};
+ghost use lib.Dec.{eqb};
 ghost use lib.ListN.{length, take};
 ghost use Rattle.search.specs.Answers.{settingsNumber};
 ghost use Rattle.sieve.specs.Hash.{Hashed};
 ghost use Rattle.rows.specs.Rows.{resultOf, numbersOf, withRow, rowsOf};
-ghost use Rattle.rows.specs.Tray.{kindsOf, messageOf, trayRow, bytesIn, wordsIn, floatsIn, trayNumber, trayInto};
+ghost use Rattle.rows.specs.Tray.{kindsOf, messageOf, trayRow, bytesIn, wordsIn, floatsIn, roomIn, trayNumber, trayInto};
 
-// The bytes of a result, and how many answers it has.
-fn bytes_in(both: bool) -> usize
-    ensures { λ r. ⌜ r ≡ bytesIn (kindsOf both) ⌝ }
+// The outputs have these lengths.
+fn have_lengths(
+    bytes: usize,
+    whole: usize,
+    pairs: usize,
+    messages: &[u8],
+    words: &[u64],
+    floats: &[f32],
+) -> bool
+    ensures { λ r. ⌜ r ≡ (eqb (length (now (messages .entry))) bytes && (eqb (length (now (words .entry))) whole && eqb (length (now (floats .entry))) pairs)) ⌝ }
 {
-    if both { 21 } else { 14 }
+    if messages.len() != bytes {
+        return false;
+    }
+    if words.len() != whole {
+        return false;
+    }
+    floats.len() == pairs
 }
 
-fn answers_in(both: bool) -> usize
-    ensures { λ r. ⌜ r ≡ length (kindsOf both) ⌝ }
+// There is room for n results.
+fn have_room(both: bool, n: usize, messages: &[u8], words: &[u64], floats: &[f32]) -> bool
+    requires { ⌜ n ≤ 64 ⌝ }
+    ensures { λ r. ⌜ r ≡ roomIn (kindsOf both) n (now (messages .entry), now (words .entry), now (floats .entry)) ⌝ }
 {
-    if both { 2 } else { 1 }
+    if both {
+        return have_lengths(21 * n, 22 * n, 4 * n, messages, words, floats);
+    }
+    have_lengths(14 * n, 11 * n, 2 * n, messages, words, floats)
 }
 
 // What is refused of a tray.
@@ -51,14 +70,7 @@ fn tray_number(
     if indices.len() != n {
         return 2;
     }
-    if messages.len() != bytes_in(both) * n {
-        return 3;
-    }
-    let answers = answers_in(both);
-    if words.len() != 11 * answers * n {
-        return 3;
-    }
-    if floats.len() != 2 * answers * n {
+    if !have_room(both, n, messages, words, floats) {
         return 3;
     }
     check_settings(s)
@@ -66,12 +78,17 @@ fn tray_number(
 
 // The answers of both searches side by side.
 fn put_both(a: BothIn, message: &mut [u8], words: &mut [u64], floats: &mut [f32])
-    requires { ⌜ (length (now message) ≡ 21) × (length (now words) ≡ 22) × (length (now floats) ≡ 4) ⌝ }
+    requires { ⌜ (length (now message) ≡ 21) × (length (now words) ≡ 22) × (length (now floats) ≡ 4) × (length (a .long .message) ≡ 14) ⌝ }
     ensures { λ _. ⌜ (now (message .exit) ≡ take 14 (a .long .message) ++ take 7 (a .short .message)) × (now (words .exit) ≡ resultOf (a .long) ++ resultOf (a .short)) × (now (floats .exit) ≡ numbersOf (a .long) ++ numbersOf (a .short)) ⌝ }
 {
     let long = a.long;
     let short = a.short;
-    put_result(long, &mut message[..14], &mut words[..11], &mut floats[..2]);
+    put_result(
+        long,
+        &mut message[0..14],
+        &mut words[0..11],
+        &mut floats[0..2],
+    );
     put_result(
         short,
         &mut message[14..],

@@ -49,12 +49,16 @@ wordsIn kinds = 11 * length kinds
 abbrev pub floatsIn : List Kind → ℕ
 floatsIn kinds = 2 * length kinds
 
+-- there is room for n results
+unfoldable pub roomIn : List Kind → ℕ → Lent → Bool
+roomIn kinds n (messages, words, floats) =
+    eqb (length messages) (bytesIn kinds * n) && (eqb (length words) (wordsIn kinds * n) && eqb (length floats) (floatsIn kinds * n))
+
 -- at most 64 windows of 2,310 numbers each and as many indices, else 2; room for as many results, else 3; then the settings: 4, 5
 unfoldable pub trayNumber : List Kind → ℕ → List Float → Settings → List ℕ → Lent → ℕ
-trayNumber kinds n samples s indices (messages, words, floats) =
+trayNumber kinds n samples s indices memory =
     orNumber (cond (leb n 64 && (eqb (length samples) (2310 * n) && eqb (length indices) n)) 0 2)
-    (orNumber (cond (eqb (length messages) (bytesIn kinds * n) && (eqb (length words) (wordsIn kinds * n) && eqb (length floats) (floatsIn kinds * n))) 0 3)
-    (settingsNumber s))
+    (orNumber (cond (roomIn kinds n memory) 0 3) (settingsNumber s))
 
 -- THE TRAY: its n results one behind another; where it is refused the memory is as it was
 unfoldable pub trayInto : List Kind → ℕ → List Float → Settings → List ℕ → Lent → ℕ × List ℕ × List ℕ × List Float

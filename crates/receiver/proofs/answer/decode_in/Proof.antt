@@ -1,5 +1,4 @@
 -- `receiver::answer::decode_in` meets its contract. Assumes nothing.
-use mathlib.Core.Path.{refl}
 use Rattle.search.specs.Kinds.{long}
 use Rattle.receiver.proofs.EitherKind.{right-long}
 use Rattle.receiver.proofs.Deciding.{decode-taken, decode-refused, answer-asks, decoded-long}
@@ -15,32 +14,30 @@ refused-requires c κs = search needs
 
 returns : tie.Need-returns
 returns c =
-    let a = c .before .before .before .before .args in
+    let a = c .before .before .before .before .before .before .before .args in
     decode-refused long (a .samples .now) (a .s) (a .index) (c .before .before .decode-number .ensures) (c .before .if1 .taken) (c .refused .ensures)
-
-slice-aggregate-best-of : tie.Need-slice-aggregate-best-of
-slice-aggregate-best-of c = search needs
 
 best-of-requires : tie.Need-best-of-requires
 best-of-requires c κs =
-    let a = c .before .before .before .before .args in
+    let s = c .before .before .before .before .before .before .before in
+    let a = s .args in
     let t = decode-taken long (a .samples .now) (c .before .if1 .left) (a .s) (a .index) (c .before .before .decode-number .ensures) in
-    (t .0 .whole, t .0 .settings, refl)
-
-slice-aggregate-answer-of : tie.Need-slice-aggregate-answer-of
-slice-aggregate-answer-of c = search needs
+    (t .0 .whole, t .0 .settings, s .pre .0, s .pre .1)
 
 answer-of-requires : tie.Need-answer-of-requires
 answer-of-requires c κs =
-    let a = c .before .before .before .before .before .before .before .args in
-    let x = c .before .before .best-of .ensures in
-    answer-asks (a .samples .now) (a .s) (a .index) (c .before .before .before .before .before .decode-number .ensures) (c .before .before .before .before .if1 .left) (x .1) long right-long (x .0)
+    let a = c .before .before .before .before .before .before .before .before .before .before .before .args in
+    let x = c .before .before .before .best-of .ensures in
+    answer-asks (a .samples .now) (a .s) (a .index) (c .before .before .before .before .before .before .decode-number .ensures) (c .before .before .before .before .before .if1 .left) (x .1) long right-long (x .0)
+
+same-length : tie.Need-same-length
+same-length c = search needs
 
 returns-2 : tie.Need-returns-2
 returns-2 c =
-    let a = c .before .before .before .before .before .before .before .before .args in
-    let x = c .before .before .before .best-of .ensures in
-    decoded-long (a .samples .now) (a .s) (a .index) (c .before .before .before .before .before .before .decode-number .ensures) (c .before .before .before .before .before .if1 .left) (x .1) (x .0) (c .answer-of .ensures)
+    let a = c .before .before .before .before .before .before .before .before .before .before .before .before .args in
+    let x = c .before .before .before .before .best-of .ensures in
+    decoded-long (a .samples .now) (a .s) (a .index) (c .before .before .before .before .before .before .before .decode-number .ensures) (c .before .before .before .before .before .before .if1 .left) (x .1) (x .0) (c .answer-of .ensures)
 
 pub decode-in-spec : {M : Type 1} → statement M
 decode-in-spec =
@@ -49,8 +46,7 @@ decode-in-spec =
     decode-number-requires
     refused-requires
     returns
-    slice-aggregate-best-of
     best-of-requires
-    slice-aggregate-answer-of
     answer-of-requires
+    same-length
     returns-2)

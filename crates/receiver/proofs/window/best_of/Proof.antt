@@ -36,9 +36,9 @@ slice-aggregate-best-long-4 c = search needs
 best-long-requires : tie.Need-best-long-requires
 unfolding long
 best-long-requires c κs =
-    let s = c .before .before .before .before .before .before .before .before .before .before .before .before .before .before .before .before .before .before .before in
+    let s = c .before .before .before .before .before .before .before .before .before .before .before .before .before .before .before .before .before .before .before .before .before in
     let w = scan-done long _ _ _ _ _ _ (s .pre .0) (s .pre .2) refl refl refl refl (c .before .before .before .before .before .before .before .before .before .before .before .scan .ensures) in
-    (w .0, s .pre .1, w .1)
+    (w .0, s .pre .1, w .1, s .pre .3)
 
 same-length : tie.Need-same-length
 same-length c = search needs
@@ -46,7 +46,7 @@ same-length c = search needs
 returns : tie.Need-returns
 unfolding long
 returns c =
-    let s = c .before .before .before .before .before .before .before .before .before .before .before .before .before .before .before .before .before .before .before .before in
+    let s = c .before .before .before .before .before .before .before .before .before .before .before .before .before .before .before .before .before .before .before .before .before .before in
     let w = scan-done long _ _ _ _ _ _ (s .pre .0) (s .pre .2) refl refl refl refl (c .before .before .before .before .before .before .before .before .before .before .before .before .scan .ensures) in
     (c .best-long .ensures, w .1)
 

@@ -42,9 +42,9 @@ slice-aggregate-best-long-4 c = search needs
 
 best-long-requires : tie.Need-best-long-requires
 best-long-requires c κs =
-    let s = c .before .before .before .before .before .before .before .before .before .before .before .before .before .before .before .before .before .before .before .before .before .before .before in
+    let s = c .before .before .before .before .before .before .before .before .before .before .before .before .before .before .before .before .before .before .before .before .before .before .before .before .before in
     let w = both-scanned _ _ _ _ _ _ _ _ (s .pre .0) (s .pre .2) refl refl refl refl refl refl (c .before .before .before .before .before .before .before .before .before .before .before .before .before .scan-both .ensures) in
-    (w .0, s .pre .1, w .2)
+    (w .0, s .pre .1, w .2, s .pre .3)
 
 slice-aggregate-best-short : tie.Need-slice-aggregate-best-short
 slice-aggregate-best-short c = search needs
@@ -60,19 +60,19 @@ slice-aggregate-best-short-4 c = search needs
 
 best-short-requires : tie.Need-best-short-requires
 best-short-requires c κs =
-    let s = c .before .before .before .before .before .before .before .before .before .before .before .before .before .before .before .before .before .before .before .before .before .before .before .before .before .before .before .before .before in
+    let s = c .before .before .before .before .before .before .before .before .before .before .before .before .before .before .before .before .before .before .before .before .before .before .before .before .before .before .before .before .before .before .before in
     let w = both-scanned _ _ _ _ _ _ _ _ (s .pre .0) (s .pre .2) refl refl refl refl refl refl (c .before .before .before .before .before .before .before .before .before .before .before .before .before .before .before .before .before .before .before .scan-both .ensures) in
-    (w .1, s .pre .1, w .2)
+    (w .1, s .pre .1, w .2, s .pre .3)
 
 same-length : tie.Need-same-length
 same-length c =
-    let s = c .before .before .before .before .before .before .before .before .before .before .before .before .before .before .before .before .before .before .before .before .before .before .before .before .before .before .before .before .before .before in
+    let s = c .before .before .before .before .before .before .before .before .before .before .before .before .before .before .before .before .before .before .before .before .before .before .before .before .before .before .before .before .before .before .before .before in
     let w = both-scanned _ _ _ _ _ _ _ _ (s .pre .0) (s .pre .2) refl refl refl refl refl refl (c .before .before .before .before .before .before .before .before .before .before .before .before .before .before .before .before .before .before .before .before .scan-both .ensures) in
     ap length (w .2) ∙ sums-length (s .args .samples .now) ∙ sym (s .pre .2)
 
 returns : tie.Need-returns
 returns c =
-    let s = c .before .before .before .before .before .before .before .before .before .before .before .before .before .before .before .before .before .before .before .before .before .before .before .before .before .before .before .before .before .before in
+    let s = c .before .before .before .before .before .before .before .before .before .before .before .before .before .before .before .before .before .before .before .before .before .before .before .before .before .before .before .before .before .before .before .before in
     let w = both-scanned _ _ _ _ _ _ _ _ (s .pre .0) (s .pre .2) refl refl refl refl refl refl (c .before .before .before .before .before .before .before .before .before .before .before .before .before .before .before .before .before .before .before .before .scan-both .ensures) in
     (c .before .before .before .before .before .before .best-long .ensures, c .best-short .ensures, w .2)
 

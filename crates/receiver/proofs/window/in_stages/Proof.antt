@@ -23,7 +23,7 @@ same-length-2 c = search needs
 
 returns : tie.Need-returns
 returns c =
-    let a = c .before .before .before .before .before .before .before .before .before .before .before .before .before .before .before .args in
+    let a = c .before .before .before .before .before .before .before .before .before .before .before .before .before .before .before .before .before .args in
     first-stage (kindOf (a .kind)) (a .s) (seen (kindOf (a .kind)) (a .samples .now)) (c .before .before .before .before .exact-best .ensures .0) (c .if1 .taken)
 
 same-length-3 : tie.Need-same-length-3
@@ -34,12 +34,12 @@ same-length-4 c = search needs
 
 returns-2 : tie.Need-returns-2
 returns-2 c =
-    let a = c .before .before .before .before .before .before .before .before .before .before .before .before .before .before .before .before .before .args in
+    let a = c .before .before .before .before .before .before .before .before .before .before .before .before .before .before .before .before .before .before .before .args in
     only-stage (kindOf (a .kind)) (a .s) (seen (kindOf (a .kind)) (a .samples .now)) (c .if2 .taken) (c .before .before .before .before .before .before .exact-best .ensures .0)
 
 repaired-best-requires : tie.Need-repaired-best-requires
 repaired-best-requires c κs =
-    let s = c .before .before .before .before .before .before .before .before .before .before .before .before .before .before .before .before .before .before .before in
+    let s = c .before .before .before .before .before .before .before .before .before .before .before .before .before .before .before .before .before .before .before .before .before in
     let a = s .args in
     let k = kindOf (a .kind) in (
       s .pre .0,
@@ -48,6 +48,7 @@ repaired-best-requires c κs =
       s .pre .2,
       c .before .before .before .before .before .before .before .before .exact-best .ensures .1,
       ap length (s .pre .4) ∙ length-replicate (16 * k .last) 0,
+      s .pre .5,
     )
 
 same-length-5 : tie.Need-same-length-5

@@ -23,7 +23,7 @@ same-length-2 c = search needs
 
 returns : tie.Need-returns
 returns c =
-    let s = c .before .before .before .before .before .before .before .before .before .before .before .before .before .before .before .before .before .before in
+    let s = c .before .before .before .before .before .before .before .before .before .before .before .before .before .before .before .before .before .before .before .before in
     let a = s .args in
     let z = scanned-sizes (kindOf (a .kind)) (a .samples .now) (a .coherent .now) (a .noncoherent .now) (a .crcs .now) (a .others .now) (s .pre .0) in
     let t = repaired-taken (kindOf (a .kind)) (right (a .kind)) (a .crcs .now) (a .others .now) (a .s .level) (a .list .now) (a .codes .now) (z .first-crcs) (z .second-crcs) (s .pre .4) (s .pre .5) (level-low (a .s) (s .pre .1)) (c .before .before .before .before .before .before .before .repairable-places .ensures) in
@@ -31,7 +31,7 @@ returns c =
 
 best-listed-requires : tie.Need-best-listed-requires
 best-listed-requires c κs =
-    let s = c .before .before .before .before .before .before .before .before .before .before .before .before .before .before .before .before .before .before .before in
+    let s = c .before .before .before .before .before .before .before .before .before .before .before .before .before .before .before .before .before .before .before .before .before in
     let a = s .args in
     let z = scanned-sizes (kindOf (a .kind)) (a .samples .now) (a .coherent .now) (a .noncoherent .now) (a .crcs .now) (a .others .now) (s .pre .0) in
     let t = repaired-taken (kindOf (a .kind)) (right (a .kind)) (a .crcs .now) (a .others .now) (a .s .level) (a .list .now) (a .codes .now) (z .first-crcs) (z .second-crcs) (s .pre .4) (s .pre .5) (level-low (a .s) (s .pre .1)) (c .before .before .before .before .before .before .before .before .repairable-places .ensures) in
@@ -45,7 +45,7 @@ same-length-4 c = search needs
 
 returns-2 : tie.Need-returns-2
 returns-2 c =
-    let s = c .before .before .before .before .before .before .before .before .before .before .before .before .before .before .before .before .before .before .before .before in
+    let s = c .before .before .before .before .before .before .before .before .before .before .before .before .before .before .before .before .before .before .before .before .before .before in
     let a = s .args in
     let z = scanned-sizes (kindOf (a .kind)) (a .samples .now) (a .coherent .now) (a .noncoherent .now) (a .crcs .now) (a .others .now) (s .pre .0) in
     let t = repaired-taken (kindOf (a .kind)) (right (a .kind)) (a .crcs .now) (a .others .now) (a .s .level) (a .list .now) (a .codes .now) (z .first-crcs) (z .second-crcs) (s .pre .4) (s .pre .5) (level-low (a .s) (s .pre .1)) (c .before .before .before .before .before .before .before .before .before .repairable-places .ensures) in

@@ -28,11 +28,12 @@ use Rattle.annex10.proofs.Repairing.{not-found}
 use Rattle.annex10.proofs.Singles.{singles, S, single-is, two-is}
 use Rattle.annex10.proofs.UpTo.{up-to-none, none-not-zero, gone-high}
 use Rattle.repairs.specs.Codes.{codeUpTo}
-use Rattle.sieve.specs.declared.list.Shape.{Shape}
+use Rattle.sieve.specs.declared.hash.Shape.{Shape}
 use Rattle.scan.specs.Sieve.{laneOf}
 use Rattle.scan.proofs.Keeping.{or-bits, lane-is}
 use Rattle.sieve.specs.Repairable.{repairableAt}
-use Rattle.sieve.specs.Inner.{slotOf, lets, letIn, Shaped, Owners, asks}
+use Rattle.sieve.specs.Hash.{slotOf, lets, asks}
+use Rattle.sieve.specs.Inner.{letIn, Shaped, Owners}
 use Rattle.sieve.proofs.Placed.{placed, read, stands, read-is}
 use Rattle.sieve.proofs.Clears.{rep-none, fewer-gone}
 

@@ -25,9 +25,10 @@ use Rattle.repairs.specs.Codes.{codeUpTo, codesUpTo, codesUpToInto}
 use Rattle.scan.specs.declared.list.Listed.{Listed}
 use Rattle.scan.specs.Sieve.{kept, laneOf, onto}
 use Rattle.scan.proofs.Keeping.{kept-none, below}
-use Rattle.sieve.specs.declared.list.Shape.{Shape}
+use Rattle.sieve.specs.declared.hash.Shape.{Shape}
 use Rattle.sieve.specs.Repairable.{repairable, repairableAt, repairablePlaces, codePairs, repairableIn, repairableInto}
-use Rattle.sieve.specs.Inner.{bytesOf, mostOf, letIn, Owners, asks, Within, Gathered, Sifted, taken, picked, pickedCodes, keptIn}
+use Rattle.sieve.specs.Hash.{asks}
+use Rattle.sieve.specs.Inner.{bytesOf, mostOf, letIn, Owners, Within, Gathered, Sifted, taken, picked, pickedCodes, keptIn}
 use Rattle.sieve.proofs.Clears.{coded}
 use Rattle.sieve.proofs.Listing.{among, among-snoc, among-kept, onto-none, onto-more}
 use Rattle.sieve.proofs.Owning.{asks-same, let-places}

@@ -1,20 +1,20 @@
 -- What private functions rest on: no public contract cites it.
--- A hash that only lets through: the lowest bits of a remainder choose a displacement, which moves some of the upper bits to a slot, and
--- the slot names the low bits of the remainder that owns it. Each pattern of at least one and at most so many positions owns its slot.
+-- Each pattern of at least one and at most so many positions owns its slot of the hash.
 -- Assumes nothing.
 use mathlib.Core.Path.{_≡_}
 use mathlib.Core.Bool.{Bool, true, false, cond, _||_}
 use mathlib.Core.List.{List, [], _∷_, _++_}
-use Prim.Native.Nat.{ℕ, zero, suc, _+_, _*_, _/_, _^_, _<_, _≤_}
-use lib.Bits.{bitXor, bitAnd}
-use lib.Dec.{eqb, ltb}
+use Prim.Native.Nat.{ℕ, zero, suc, _+_, _*_, _^_, _<_, _≤_}
+use lib.Bits.{bitAnd}
+use lib.Dec.{ltb}
 use lib.ListN.{length, getD, take}
 use Rattle.annex10.specs.declared.Repairs.{Repairs}
 use Rattle.annex10.specs.Repair.{Proper, count, pattern}
-use Rattle.sieve.specs.declared.list.Shape.{Shape}
+use Rattle.sieve.specs.declared.hash.Shape.{Shape}
 use Rattle.repairs.specs.Codes.{codeUpTo}
 use Rattle.scan.specs.Sieve.{kept, laneOf, onto}
 use Rattle.sieve.specs.Repairable.{repairableAt}
+use Rattle.sieve.specs.Hash.{slotOf, lets, asks}
 
 -- the bytes of a short message and of a long one, and the most repairs
 unfoldable pub bytesOf : Bool → ℕ
@@ -24,14 +24,6 @@ bytesOf false = 14
 unfoldable pub mostOf : Bool → ℕ
 mostOf true = 1
 mostOf false = 2
-
--- the slot of a remainder
-abbrev pub slotOf : Shape → List ℕ → ℕ → ℕ
-slotOf s ds r = bitXor (bitAnd (r / 2 ^ s .shift) (s .slots)) (getD ds (bitAnd r (s .index)) 0)
-
--- a remainder owns its slot
-unfoldable pub lets : Shape → List ℕ → List ℕ → ℕ → Bool
-lets s ds os r = eqb (getD os (slotOf s ds r) 0) (bitAnd r (s .low))
 
 -- one of the two remainders of place k does
 unfoldable pub letIn : Shape → List ℕ → List ℕ → List ℕ → List ℕ → ℕ → Bool
@@ -51,10 +43,6 @@ pub record Owners (level : ℕ) (s : Shape) (ds os : List ℕ) : Type 0 where
   pub shaped : Shaped s ds os
   pub there : (ρ : Repairs) → Proper 14 ρ → 1 ≤ count ρ → count ρ ≤ level
       → getD os (slotOf s ds (pattern 14 ρ)) 0 ≡ bitAnd (pattern 14 ρ) (s .low)
-
--- what is asked in place of a remainder: nothing clears 2^24
-unfoldable pub asks : Shape → List ℕ → List ℕ → ℕ → ℕ
-asks s ds os r = cond (lets s ds os r) r (cond (eqb r 0) 0 (2 ^ 24))
 
 -- the first n places are below so many
 pub record Within (many : ℕ) (through : List ℕ) (n : ℕ) : Type 0 where

@@ -1,2 +1,4 @@
 pub mod Repairable
+pub mod Tables
+pub mod Hash
 pub mod Inner

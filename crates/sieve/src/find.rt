@@ -1,8 +1,8 @@
 // From the remainders to the places that so many repairs can clear. A constant table is written out at the start of the function that
 // lends it: so each level's hash has its own, and none of them is alive when the sorted tables are asked.
+use crate::hash::Shape;
 use crate::keep::keep;
 use crate::keep::tell;
-use crate::list::Shape;
 use crate::list::gather;
 use crate::list::list_in;
 use crate::tables::ONE_DISPLACEMENTS;

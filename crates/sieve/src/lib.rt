@@ -1,6 +1,7 @@
 // The places whose remainders at least one repair and at most so many can clear. A hash lets them through, and the sorted tables are
 // asked for those alone.
 mod find;
+pub mod hash;
 mod keep;
 mod list;
 mod tables;

@@ -1,18 +1,12 @@
 // The list of the places that a lent hash lets through, in the order of the search, and what is to be asked for them.
+use crate::hash::Shape;
 ghost use mathlib.Core.Path.{_≡_};
 ghost use Prim.Native.Nat.{_*_, _≤_};
 ghost use lib.ListN.{length, take};
 ghost use Rattle.lists.specs.Bits.{asBit};
 ghost use Rattle.scan.specs.Sieve.{kept, laneOf};
-ghost use Rattle.sieve.specs.Inner.{Shaped, lets, letIn, asks, Within, Gathered};
-
-// Which bits of a remainder choose the displacement, which the slot, and which are the owner's.
-pub struct Shape {
-    pub index: u32,
-    pub shift: u32,
-    pub slots: u32,
-    pub low: u32,
-}
+ghost use Rattle.sieve.specs.Hash.{lets, asks};
+ghost use Rattle.sieve.specs.Inner.{Shaped, letIn, Within, Gathered};
 
 // Whether a remainder owns its slot.
 fn owned(shape: Shape, displacements: &[u8], owners: &[u16], crc: u32) -> usize

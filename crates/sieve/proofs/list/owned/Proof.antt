@@ -3,7 +3,7 @@ use borrow.Author.Needs.{needs}
 use native.Mathlib.Omega.{arith}
 use denote.Ref.{now}
 use lib.Bits.{bitAnd, and-le-l}
-use Rattle.sieve.specs.Inner.{slotOf}
+use Rattle.sieve.specs.Hash.{slotOf}
 use Rattle.sieve.proofs.Owning.{slot-lt, slot-small, index-lt, lets-hit, lets-miss}
 use Rattle.sieve.proofs.list.owned.Statement.{statement}
 use Rattle.sieve.proofs.list.owned.Tie as tie

@@ -59,7 +59,7 @@ module _ (n : ℕ) (h : n ≤ 14) where
   apart-more : Apart (14 - n + n)
   apart-more = let e : 14 ≡ 14 - n + n = omega arith in subst Apart e apart-14
 
-  apart : Apart n
+  pub apart : Apart n
   apart = shorter (14 - n) n apart-more
 
   pub fewer-gone : (m r : ℕ) → clearing 14 m r ≡ Nothing → clearing n m r ≡ Nothing

@@ -11,10 +11,12 @@ use crate::tables::TWO_DISPLACEMENTS;
 use crate::tables::TWO_OWNERS;
 use scan::list::Listed;
 ghost use mathlib.Core.Path.{_≡_};
+ghost use mathlib.Core.Bool.{true};
 ghost use Prim.Native.Nat.{_*_, _≤_};
 ghost use lib.ListN.{length, take};
 ghost use Rattle.scan.specs.Sieve.{kept};
 ghost use Rattle.sieve.specs.Repairable.{repairableIn};
+ghost use Rattle.sieve.specs.Hash.{hashFits, askedIn};
 ghost use Rattle.sieve.specs.Inner.{bytesOf, mostOf, Shaped, letIn, Gathered, Sifted};
 
 const AT_ONE: Shape = Shape {
@@ -92,18 +94,70 @@ fn sift_two(m: usize, crcs: &[u32], others: &[u32], through: &mut [u16], asked: 
     )
 }
 
-// By the hash of the level.
-fn sift(
+// By a lent hash: that of one error stands in front.
+fn sift_lent(
     level: u32,
     m: usize,
+    displacements: &[u8],
+    owners: &[u16],
     crcs: &[u32],
     others: &[u32],
     through: &mut [u16],
     asked: &mut [u32],
 ) -> usize
-    requires { ⌜ (1 ≤ level) × (level ≤ 2) × (m ≤ 87) × (length (now crcs) ≡ 8 * m) × (length (now others) ≡ 8 * m) × (length (now through) ≡ 8 * m) × (length (now asked) ≡ 2 * (8 * m)) ⌝ }
-    ensures { λ r. ⌜ Sifted level (8 * m) (now (crcs .entry)) (now (others .entry)) (now (through .exit)) (now (asked .exit)) r ⌝ }
+    requires { ⌜ (m ≤ 87) × (length (now displacements) ≡ 2176) × (length (now owners) ≡ 8448) × (length (now crcs) ≡ 8 * m) × (length (now others) ≡ 8 * m) × (length (now through) ≡ 8 * m) × (length (now asked) ≡ 2 * (8 * m)) ⌝ }
+    ensures { λ r. ⌜ Sifted level (8 * m) (askedIn level (now (displacements .entry)) (now (owners .entry)) (now (crcs .entry))) (askedIn level (now (displacements .entry)) (now (owners .entry)) (now (others .entry))) (now (through .exit)) (now (asked .exit)) r ⌝ }
 {
+    if level != 1 {
+        return sift_in(
+            m,
+            AT_TWO,
+            &displacements[128..],
+            &owners[256..],
+            crcs,
+            others,
+            through,
+            asked,
+        );
+    }
+    sift_in(
+        m,
+        AT_ONE,
+        &displacements[..128],
+        &owners[..256],
+        crcs,
+        others,
+        through,
+        asked,
+    )
+}
+
+// By the hash of the level: the lent one, or the function's own where nothing is lent.
+fn sift(
+    level: u32,
+    m: usize,
+    displacements: &[u8],
+    owners: &[u16],
+    crcs: &[u32],
+    others: &[u32],
+    through: &mut [u16],
+    asked: &mut [u32],
+) -> usize
+    requires { ⌜ (1 ≤ level) × (level ≤ 2) × (m ≤ 87) × (hashFits (now displacements) (now owners) ≡ true) × (length (now crcs) ≡ 8 * m) × (length (now others) ≡ 8 * m) × (length (now through) ≡ 8 * m) × (length (now asked) ≡ 2 * (8 * m)) ⌝ }
+    ensures { λ r. ⌜ Sifted level (8 * m) (askedIn level (now (displacements .entry)) (now (owners .entry)) (now (crcs .entry))) (askedIn level (now (displacements .entry)) (now (owners .entry)) (now (others .entry))) (now (through .exit)) (now (asked .exit)) r ⌝ }
+{
+    if owners.len() == 8448 {
+        return sift_lent(
+            level,
+            m,
+            displacements,
+            owners,
+            crcs,
+            others,
+            through,
+            asked,
+        );
+    }
     if level == 1 {
         return sift_one(m, crcs, others, through, asked);
     }
@@ -115,6 +169,8 @@ pub fn find(
     short: bool,
     level: u32,
     m: usize,
+    displacements: &[u8],
+    owners: &[u16],
     crcs: &[u32],
     others: &[u32],
     through: &mut [u16],
@@ -122,10 +178,19 @@ pub fn find(
     list: &mut [u16],
     codes: &mut [u32],
 ) -> Listed
-    requires { ⌜ (1 ≤ level) × (level ≤ mostOf short) × (m ≤ 87) × (length (now crcs) ≡ 8 * m) × (length (now others) ≡ 8 * m) × (length (now through) ≡ 8 * m) × (length (now asked) ≡ 2 * (8 * m)) × (length (now list) ≡ 8 * m) × (length (now codes) ≡ 2 * (8 * m)) ⌝ }
-    ensures { λ r. ⌜ (r, now (list .exit), now (codes .exit)) ≡ repairableIn (bytesOf short) level (8 * m) (now (crcs .entry)) (now (others .entry)) (now (list .entry)) (now (codes .entry)) ⌝ }
+    requires { ⌜ (1 ≤ level) × (level ≤ mostOf short) × (m ≤ 87) × (hashFits (now displacements) (now owners) ≡ true) × (length (now crcs) ≡ 8 * m) × (length (now others) ≡ 8 * m) × (length (now through) ≡ 8 * m) × (length (now asked) ≡ 2 * (8 * m)) × (length (now list) ≡ 8 * m) × (length (now codes) ≡ 2 * (8 * m)) ⌝ }
+    ensures { λ r. ⌜ (r, now (list .exit), now (codes .exit)) ≡ repairableIn (bytesOf short) level (8 * m) (askedIn level (now (displacements .entry)) (now (owners .entry)) (now (crcs .entry))) (askedIn level (now (displacements .entry)) (now (owners .entry)) (now (others .entry))) (now (list .entry)) (now (codes .entry)) ⌝ }
 {
-    let count = sift(level, m, crcs, others, through, asked);
+    let count = sift(
+        level,
+        m,
+        displacements,
+        owners,
+        crcs,
+        others,
+        through,
+        asked,
+    );
     if count == 0 {
         return Listed {
             number: 0,

@@ -1,8 +1,67 @@
-// The hash that a caller may write out once and lend to many calls.
+// The hash that a caller may write out once and lend to many calls. A constant table is written out at the start of the function that
+// lends it: so each level's has its own.
+use crate::tables::ONE_DISPLACEMENTS;
+use crate::tables::ONE_OWNERS;
+use crate::tables::TWO_DISPLACEMENTS;
+use crate::tables::TWO_OWNERS;
+ghost use mathlib.Core.Path.{_≡_};
+ghost use lib.ListN.{length};
+ghost use Rattle.sieve.specs.Tables.{oneDisplacements, oneOwners, twoDisplacements, twoOwners};
+ghost use Rattle.sieve.specs.Hash.{hashInto};
+
 // Which bits of a remainder choose the displacement, which the slot, and which are the owner's.
 pub struct Shape {
     pub index: u32,
     pub shift: u32,
     pub slots: u32,
     pub low: u32,
+}
+
+fn put_displacements(from: &[u8], to: &mut [u8])
+    requires { ⌜ length (now to) ≡ length (now from) ⌝ }
+    ensures { λ _. ⌜ now (to .exit) ≡ now (from .entry) ⌝ }
+{
+    for i in 0..from.len() {
+        to[i] = from[i];
+    }
+}
+
+fn put_owners(from: &[u16], to: &mut [u16])
+    requires { ⌜ length (now to) ≡ length (now from) ⌝ }
+    ensures { λ _. ⌜ now (to .exit) ≡ now (from .entry) ⌝ }
+{
+    for i in 0..from.len() {
+        to[i] = from[i];
+    }
+}
+
+fn put_one(displacements: &mut [u8], owners: &mut [u16])
+    requires { ⌜ (length (now displacements) ≡ 128) × (length (now owners) ≡ 256) ⌝ }
+    ensures { λ _. ⌜ (now (displacements .exit) ≡ oneDisplacements) × (now (owners .exit) ≡ oneOwners) ⌝ }
+{
+    put_displacements(&ONE_DISPLACEMENTS, displacements);
+    put_owners(&ONE_OWNERS, owners);
+}
+
+fn put_two(displacements: &mut [u8], owners: &mut [u16])
+    requires { ⌜ (length (now displacements) ≡ 2048) × (length (now owners) ≡ 8192) ⌝ }
+    ensures { λ _. ⌜ (now (displacements .exit) ≡ twoDisplacements) × (now (owners .exit) ≡ twoOwners) ⌝ }
+{
+    put_displacements(&TWO_DISPLACEMENTS, displacements);
+    put_owners(&TWO_OWNERS, owners);
+}
+
+// To lent memory: 2,176 displacements and 8,448 owners, that of one error in front. Refused: 3 other sizes.
+pub fn write_hash(displacements: &mut [u8], owners: &mut [u16]) -> u32
+    ensures { λ r. ⌜ (r, now (displacements .exit), now (owners .exit)) ≡ hashInto (now (displacements .entry)) (now (owners .entry)) ⌝ }
+{
+    if displacements.len() != 2176 {
+        return 3;
+    }
+    if owners.len() != 8448 {
+        return 3;
+    }
+    put_one(&mut displacements[..128], &mut owners[..256]);
+    put_two(&mut displacements[128..], &mut owners[256..]);
+    0
 }

@@ -11,7 +11,7 @@ use scan::list::Listed;
 ghost use mathlib.Core.Path.{_≡_};
 ghost use Prim.Native.Nat.{_*_, _≤_, min};
 ghost use lib.ListN.{length};
-ghost use Rattle.sieve.specs.Repairable.{repairableInto};
+ghost use Rattle.sieve.specs.Hash.{hashFits, sievedInto};
 ghost use Rattle.sieve.specs.Inner.{bytesOf, mostOf};
 
 // As many repairs as the level says, but no more than the kind allows.
@@ -22,11 +22,26 @@ fn at_most(short: bool, level: u32) -> u32
     if short { 1 } else { level }
 }
 
+// Nothing is lent, or as much as the hash has.
+fn hash_fits(displacements: &[u8], owners: &[u16]) -> bool
+    ensures { λ r. ⌜ r ≡ hashFits (now (displacements .entry)) (now (owners .entry)) ⌝ }
+{
+    if displacements.len() == 0 {
+        return owners.len() == 0;
+    }
+    if displacements.len() == 2176 {
+        return owners.len() == 8448;
+    }
+    false
+}
+
 // Of the places of m bit offsets, with lent memory for those that are let through and for what is asked.
 fn find_of(
     short: bool,
     m: usize,
     level: u32,
+    displacements: &[u8],
+    owners: &[u16],
     crcs: &[u32],
     others: &[u32],
     through: &mut [u16],
@@ -35,8 +50,14 @@ fn find_of(
     codes: &mut [u32],
 ) -> Listed
     requires { ⌜ (m ≤ 87) × (length (now through) ≡ 8 * m) × (length (now asked) ≡ 2 * (8 * m)) ⌝ }
-    ensures { λ r. ⌜ (r, now (list .exit), now (codes .exit)) ≡ repairableInto (bytesOf short) (mostOf short) (8 * m) level (now (crcs .entry)) (now (others .entry)) (now (list .entry)) (now (codes .entry)) ⌝ }
+    ensures { λ r. ⌜ (r, now (list .exit), now (codes .exit)) ≡ sievedInto (bytesOf short) (mostOf short) (8 * m) level (now (displacements .entry)) (now (owners .entry)) (now (crcs .entry)) (now (others .entry)) (now (list .entry)) (now (codes .entry)) ⌝ }
 {
+    if !hash_fits(displacements, owners) {
+        return Listed {
+            number: 2,
+            count: 0,
+        };
+    }
     if crcs.len() != 8 * m {
         return Listed {
             number: 2,
@@ -77,6 +98,8 @@ fn find_of(
         short,
         at_most(short, level),
         m,
+        displacements,
+        owners,
         crcs,
         others,
         through,
@@ -87,15 +110,17 @@ fn find_of(
 }
 
 // Of the 248 places of 14 bytes, by the remainders of both slicers: their numbers in the order of the search, and the codes of both
-// remainders of each. Refused: 2 not 248 remainders, 3 not room for 248 places and 496 codes, 4 a level above 2.
+// remainders of each. The hash is lent, or nothing. Refused: 2 not 248 remainders or another hash's size, 3 not room for 248 places and 496 codes, 4 a level above 2.
 pub fn find_repairable(
     level: u32,
+    displacements: &[u8],
+    owners: &[u16],
     crcs: &[u32],
     others: &[u32],
     list: &mut [u16],
     codes: &mut [u32],
 ) -> Listed
-    ensures { λ r. ⌜ (r, now (list .exit), now (codes .exit)) ≡ repairableInto 14 2 248 level (now (crcs .entry)) (now (others .entry)) (now (list .entry)) (now (codes .entry)) ⌝ }
+    ensures { λ r. ⌜ (r, now (list .exit), now (codes .exit)) ≡ sievedInto 14 2 248 level (now (displacements .entry)) (now (owners .entry)) (now (crcs .entry)) (now (others .entry)) (now (list .entry)) (now (codes .entry)) ⌝ }
 {
     let mut through = [0u16; 248];
     let mut asked = [0u32; 496];
@@ -103,6 +128,8 @@ pub fn find_repairable(
         false,
         31,
         level,
+        displacements,
+        owners,
         crcs,
         others,
         &mut through,
@@ -116,12 +143,14 @@ pub fn find_repairable(
 // 1,392 codes.
 pub fn find_repairable_short(
     level: u32,
+    displacements: &[u8],
+    owners: &[u16],
     crcs: &[u32],
     others: &[u32],
     list: &mut [u16],
     codes: &mut [u32],
 ) -> Listed
-    ensures { λ r. ⌜ (r, now (list .exit), now (codes .exit)) ≡ repairableInto 7 1 696 level (now (crcs .entry)) (now (others .entry)) (now (list .entry)) (now (codes .entry)) ⌝ }
+    ensures { λ r. ⌜ (r, now (list .exit), now (codes .exit)) ≡ sievedInto 7 1 696 level (now (displacements .entry)) (now (owners .entry)) (now (crcs .entry)) (now (others .entry)) (now (list .entry)) (now (codes .entry)) ⌝ }
 {
     let mut through = [0u16; 696];
     let mut asked = [0u32; 1392];
@@ -129,6 +158,8 @@ pub fn find_repairable_short(
         true,
         87,
         level,
+        displacements,
+        owners,
         crcs,
         others,
         &mut through,

@@ -4,18 +4,20 @@
 --     asked-one, asked-two, asked-own, length-asked   what is asked, by what is lent
 --     getD-asks                        of the remainder at a place
 --     sifted-lent, lent-one, lent-two, lent-none   what the parts give
---     sieved-done, sieved-not          the answer
+--     sieved-not, sieved-as, sieved-done           the answer
+--     written                          both parts in lent memory
 -- Assumes nothing.
 use mathlib.Core.Path.{_≡_, refl, sym, ap, _∙_, subst}
 use mathlib.Core.Bool.{Bool, true, false, true≢false, cond, _&&_, _||_}
-use mathlib.Core.List.{List, map}
+use mathlib.Core.List.{List, [], _++_, map, append-nil}
 use Prim.Native.Nat.{ℕ, zero, suc, _+_, _-_, _*_, _^_, _<_, _≤_, min}
 use native.Mathlib.Nat.{le-refl}
 use native.Mathlib.Omega.{arith}
 use borrow.Author.Tests.{eq-eqb, ne-eqb, eqb-true}
+use borrow.Rule.Slice.PartMut.{putMid}
 use lib.Dec.{eqb}
-use lib.ListN.{length, getD, take, drop, length-drop, length-map, List·getD-map}
-use lib.Seq.{take-all, length-take-le, getD-take, getD-drop}
+use lib.ListN.{length, getD, take, drop, length-drop, drop-of-length-le, length-map, List·getD-map}
+use lib.Seq.{take-all, take-at, length-take-le, getD-take, getD-drop}
 use Rattle.lists.proofs.Test.{or-none}
 use Rattle.annex10.proofs.UpTo.{zero-gone, gone-high}
 use Rattle.repairs.specs.Codes.{codeUpTo}
@@ -23,7 +25,8 @@ use Rattle.scan.specs.declared.list.Listed.{Listed}
 use Rattle.scan.specs.Sieve.{kept, laneOf}
 use Rattle.sieve.specs.declared.hash.Shape.{Shape}
 use Rattle.sieve.specs.Repairable.{repairable, repairableAt, refusedIn, repairableIn, repairableInto}
-use Rattle.sieve.specs.Hash.{atOne, atTwo, lets, asks, hashFits, askedIn, sievedInto}
+use Rattle.sieve.specs.Tables.{oneDisplacements, oneOwners, twoDisplacements, twoOwners}
+use Rattle.sieve.specs.Hash.{atOne, atTwo, lets, asks, hashDisplacements, hashOwners, hashInto, hashFits, askedIn, sievedInto}
 use Rattle.sieve.specs.Inner.{letIn, Shaped, Gathered, Sifted}
 use Rattle.sieve.proofs.Clears.{apart, rep-none}
 use Rattle.sieve.proofs.Picking.{into-done}
@@ -207,3 +210,30 @@ module _ (bytes most many level : ℕ) (ds os crcs others list codes : List ℕ)
       (into-done bytes most many level n (asked crcs) (asked others) list codes x ls cs
       (length-asked (min level most) ds os crcs ∙ a) (length-asked (min level most) ds os others ∙ b) c d h e
       (q ∙ ap (λ (k : ℕ). repairableIn bytes n many (askedIn k ds os crcs) (askedIn k ds os others) list codes) e))
+
+-- ---- written to lent memory
+
+pub length-one : length oneDisplacements ≡ 128
+unfolding oneDisplacements
+length-one = refl
+
+pub length-one-owners : length oneOwners ≡ 256
+unfolding oneOwners
+length-one-owners = refl
+
+-- two parts, the second after the first
+joined : (n : ℕ) (p q xs : List ℕ) → length p ≡ n → putMid n (length (p ++ drop n xs) - n) (p ++ drop n xs) q ≡ p ++ q
+joined n p q xs e =
+    let z : drop (length (p ++ drop n xs) - n) (drop n (p ++ drop n xs)) ≡ []
+    = drop-of-length-le (drop n (p ++ drop n xs)) {i = length (p ++ drop n xs) - n} (omega (arith, length-drop n (p ++ drop n xs))) in
+    rw (take-at p (drop n xs) n e, z, append-nil q)
+
+pub written : (ds os p q u v : List ℕ) → length ds ≡ 2176 → length os ≡ 8448 → (p ≡ oneDisplacements) × (u ≡ oneOwners)
+    → (q ≡ twoDisplacements) × (v ≡ twoOwners)
+    → (0, putMid 128 (length (p ++ drop 128 ds) - 128) (p ++ drop 128 ds) q, putMid 256 (length (u ++ drop 256 os) - 256) (u ++ drop 256 os) v)
+    ≡ hashInto ds os
+unfolding hashInto hashDisplacements hashOwners
+written ds os p q u v a b e g =
+    let l : length p ≡ 128 = ap length (e .0) ∙ length-one in
+    let m : length u ≡ 256 = ap length (e .1) ∙ length-one-owners in
+    rw (joined 128 p q ds l, joined 256 u v os m, eq-eqb (length ds) 2176 a, eq-eqb (length os) 8448 b, e .0, e .1, g .0, g .1)

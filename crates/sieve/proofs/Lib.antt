@@ -5,3 +5,4 @@ pub mod Owning
 pub mod Owned
 pub mod Picking
 pub mod Asking
+pub mod Lent

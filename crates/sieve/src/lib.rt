@@ -1,5 +1,5 @@
 // The places whose remainders at least one repair and at most so many can clear. A hash lets them through, and the sorted tables are
-// asked for those alone.
+// asked for those alone. A caller may lend the hash; else it is written out at each call.
 mod find;
 pub mod hash;
 mod keep;
@@ -110,7 +110,8 @@ fn find_of(
 }
 
 // Of the 248 places of 14 bytes, by the remainders of both slicers: their numbers in the order of the search, and the codes of both
-// remainders of each. The hash is lent, or nothing. Refused: 2 not 248 remainders or another hash's size, 3 not room for 248 places and 496 codes, 4 a level above 2.
+// remainders of each. The hash that `write_hash` writes is lent, or nothing. Refused: 2 not 248 remainders or a hash of another size,
+// 3 not room for 248 places and 496 codes, 4 a level above 2.
 pub fn find_repairable(
     level: u32,
     displacements: &[u8],

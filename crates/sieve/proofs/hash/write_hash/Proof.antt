@@ -6,6 +6,7 @@ use native.Mathlib.Omega.{arith}
 use denote.Ref.{now}
 use Rattle.sieve.specs.Hash.{hashInto}
 use Rattle.sieve.proofs.Picking.{part-length}
+use Rattle.sieve.proofs.Asking.{written}
 use Rattle.sieve.proofs.hash.write_hash.Statement.{statement}
 use Rattle.sieve.proofs.hash.write_hash.Tie as tie
 
@@ -62,7 +63,9 @@ same-length-2 : tie.Need-same-length-2
 same-length-2 c = search needs
 
 returns-3 : tie.Need-returns-3
-returns-3 c = ?
+returns-3 c =
+    let a = c .before .before .before .before .before .before .before .before .before .before .before .before .before .before .before .before .before .before .args in
+    written (now (a .displacements)) (now (a .owners)) _ _ _ _ (c .before .before .before .before .before .before .before .before .before .before .before .before .before .before .before .if1 .left) (c .before .before .before .before .before .before .before .before .before .before .before .before .before .before .if2 .left) (c .before .before .before .before .before .before .before .before .before .before .before .put-one .ensures) (c .before .before .before .before .put-two .ensures)
 
 pub write-hash-spec : {M : Type 1} → statement M
 write-hash-spec =

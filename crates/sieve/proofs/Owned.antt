@@ -1,5 +1,8 @@
 -- The two hashes of specs/Tables keep their rule: their tests are computed here.
 -- Assumes nothing.
+use mathlib.Core.Path.{_≡_}
+use mathlib.Core.List.{List}
+use Prim.Native.Nat.{ℕ}
 use Rattle.lists.proofs.Tree.{grow}
 use Rattle.annex10.proofs.Singles.{singles, singlesFrom}
 use Rattle.sieve.specs.Tables.{oneDisplacements, oneOwners, twoDisplacements, twoOwners}
@@ -15,3 +18,6 @@ one-owners = owner-law 1 16 7 8 oneDisplacements oneOwners tt
 pub two-owners : Owners 2 atTwo twoDisplacements twoOwners
 unfolding owner-rule sizes below-n read stands owns single-owns pair-owns pairs-own all-own grow singles singlesFrom twoDisplacements twoOwners
 two-owners = owner-law 2 11 11 13 twoDisplacements twoOwners tt
+
+pub two-owners-as : {ds os : List ℕ} → ds ≡ twoDisplacements → os ≡ twoOwners → Owners 2 atTwo ds os
+two-owners-as e g = rw (e, g) two-owners

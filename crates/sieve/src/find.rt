@@ -5,10 +5,10 @@ use crate::keep::keep;
 use crate::keep::tell;
 use crate::list::gather;
 use crate::list::list_in;
+use crate::own::two_displacements;
+use crate::own::two_owners;
 use crate::tables::ONE_DISPLACEMENTS;
 use crate::tables::ONE_OWNERS;
-use crate::tables::TWO_DISPLACEMENTS;
-use crate::tables::TWO_OWNERS;
 use scan::list::Listed;
 ghost use mathlib.Core.Path.{_≡_};
 ghost use mathlib.Core.Bool.{true};
@@ -82,11 +82,13 @@ fn sift_two(m: usize, crcs: &[u32], others: &[u32], through: &mut [u16], asked: 
     requires { ⌜ (m ≤ 87) × (length (now crcs) ≡ 8 * m) × (length (now others) ≡ 8 * m) × (length (now through) ≡ 8 * m) × (length (now asked) ≡ 2 * (8 * m)) ⌝ }
     ensures { λ r. ⌜ Sifted 2 (8 * m) (now (crcs .entry)) (now (others .entry)) (now (through .exit)) (now (asked .exit)) r ⌝ }
 {
+    let displacements = two_displacements();
+    let owners = two_owners();
     sift_in(
         m,
         AT_TWO,
-        &TWO_DISPLACEMENTS,
-        &TWO_OWNERS,
+        &displacements,
+        &owners,
         crcs,
         others,
         through,

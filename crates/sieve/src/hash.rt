@@ -1,9 +1,9 @@
 // The hash that a caller may write out once and lend to many calls. A constant table is written out at the start of the function that
 // lends it: so each level's has its own.
+use crate::own::two_displacements;
+use crate::own::two_owners;
 use crate::tables::ONE_DISPLACEMENTS;
 use crate::tables::ONE_OWNERS;
-use crate::tables::TWO_DISPLACEMENTS;
-use crate::tables::TWO_OWNERS;
 ghost use mathlib.Core.Path.{_≡_};
 ghost use lib.ListN.{length};
 ghost use Rattle.sieve.specs.Tables.{oneDisplacements, oneOwners, twoDisplacements, twoOwners};
@@ -47,8 +47,8 @@ fn put_two(displacements: &mut [u8], owners: &mut [u16])
     requires { ⌜ (length (now displacements) ≡ 2048) × (length (now owners) ≡ 8192) ⌝ }
     ensures { λ _. ⌜ (now (displacements .exit) ≡ twoDisplacements) × (now (owners .exit) ≡ twoOwners) ⌝ }
 {
-    put_displacements(&TWO_DISPLACEMENTS, displacements);
-    put_owners(&TWO_OWNERS, owners);
+    put_displacements(&two_displacements(), displacements);
+    put_owners(&two_owners(), owners);
 }
 
 // To lent memory: 2,176 displacements and 8,448 owners, that of one error in front. Refused: 3 other sizes.

@@ -4,6 +4,7 @@ mod find;
 pub mod hash;
 mod keep;
 mod list;
+mod own;
 mod tables;
 
 use crate::find::find;

@@ -1,9 +1,8 @@
-// The hash that a caller may write out once and lend to many calls. A constant table is written out at the start of the function that
-// lends it: so each level's has its own.
+// The hash that a caller may write out once and lend to many calls.
+use crate::own::one_displacements;
+use crate::own::one_owners;
 use crate::own::two_displacements;
 use crate::own::two_owners;
-use crate::tables::ONE_DISPLACEMENTS;
-use crate::tables::ONE_OWNERS;
 ghost use mathlib.Core.Path.{_≡_};
 ghost use lib.ListN.{length};
 ghost use Rattle.sieve.specs.Tables.{oneDisplacements, oneOwners, twoDisplacements, twoOwners};
@@ -39,8 +38,8 @@ fn put_one(displacements: &mut [u8], owners: &mut [u16])
     requires { ⌜ (length (now displacements) ≡ 128) × (length (now owners) ≡ 256) ⌝ }
     ensures { λ _. ⌜ (now (displacements .exit) ≡ oneDisplacements) × (now (owners .exit) ≡ oneOwners) ⌝ }
 {
-    put_displacements(&ONE_DISPLACEMENTS, displacements);
-    put_owners(&ONE_OWNERS, owners);
+    put_displacements(&one_displacements(), displacements);
+    put_owners(&one_owners(), owners);
 }
 
 fn put_two(displacements: &mut [u8], owners: &mut [u16])

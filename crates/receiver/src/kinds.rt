@@ -160,8 +160,24 @@ pub fn repairable_places(
     ensures { λ r. ⌜ (r, now (list .exit), now (codes .exit)) ≡ repairableInto (kindOf kind .bytes) (kindOf kind .most) (8 * kindOf kind .last) level (now (crcs .entry)) (now (others .entry)) (now (list .entry)) (now (codes .entry)) ⌝ }
 {
     match kind {
-        MessageKind::Long => find_repairable(level, crcs, others, list, codes),
-        MessageKind::Short => find_repairable_short(level, crcs, others, list, codes),
+        MessageKind::Long => find_repairable(
+            level,
+            displacements,
+            owners,
+            crcs,
+            others,
+            list,
+            codes,
+        ),
+        MessageKind::Short => find_repairable_short(
+            level,
+            displacements,
+            owners,
+            crcs,
+            others,
+            list,
+            codes,
+        ),
     }
 }
 

@@ -1,4 +1,7 @@
 -- `receiver::kinds::repairable_places` meets its contract. Assumes nothing.
+use mathlib.Core.Path.{_∙_}
+use native.Mathlib.Omega.{arith}
+use Rattle.sieve.proofs.Lent.{sieved-whole}
 use Rattle.search.specs.Kinds.{long, short}
 use borrow.Author.Needs.{needs}
 use Rattle.receiver.proofs.kinds.repairable_places.Statement.{statement}
@@ -24,7 +27,9 @@ same-length-2 c = search needs
 
 returns : tie.Need-returns
 unfolding long
-returns c = rw (c .before .before .before .before .before .before .before .enum-told .given .1) (c .before .before .before .before .find-repairable .ensures)
+returns c =
+    let s = c .before .before .before .before .before .before .before .before .before .before .before .before .before .before .before in
+    rw (c .before .before .before .before .before .before .before .enum-told .given .1) (c .before .before .before .before .find-repairable .ensures ∙ sieved-whole 14 2 _ _ _ _ _ _ _ _ (omega arith) (omega arith) (s .pre))
 
 same-length-3 : tie.Need-same-length-3
 same-length-3 c = search needs
@@ -34,7 +39,9 @@ same-length-4 c = search needs
 
 returns-2 : tie.Need-returns-2
 unfolding short
-returns-2 c = rw (c .before .before .before .before .before .before .before .enum-told2 .given .1) (c .before .before .before .before .find-repairable-short .ensures)
+returns-2 c =
+    let s = c .before .before .before .before .before .before .before .before .before .before .before .before .before .before .before in
+    rw (c .before .before .before .before .before .before .before .enum-told2 .given .1) (c .before .before .before .before .find-repairable-short .ensures ∙ sieved-whole 7 1 _ _ _ _ _ _ _ _ (omega arith) (omega arith) (s .pre))
 
 pub repairable-places-spec : {M : Type 1} → statement M
 repairable-places-spec =

@@ -40,11 +40,13 @@ loop-again c =
     let a = c .before .before .before .before .before .before .before .before .before .before .before .before .before .before .before .before .before .before .before .before .before .before .before .args in
     let l = c .before .before .before .before .before .before .before .before .before .before .before .before .before .before .loop in
     let h = c .before .before .before .before .before .before .before .before .before .before .before .before .before .loop-test .taken in
-    let e = c .before .before .before .before .before .before .before .before .step .ensures in
-    (search needs, search needs,
-     rw (e .0) (beside-more _ _ _ _ _ _ h (l .inv .2) refl (row-bytes (a .samples .now) (a .s) (a .indices .now) (l .k) (a .both))),
-     rw (e .1) (beside-more _ _ _ _ _ _ h (l .inv .3) refl (row-words (a .samples .now) (a .s) (a .indices .now) (l .k) (a .both))),
-     rw (e .2) (beside-more _ _ _ _ _ _ h (l .inv .4) refl (row-floats (a .samples .now) (a .s) (a .indices .now) (l .k) (a .both))))
+    let e = c .before .before .before .before .before .before .before .before .step .ensures in (
+      search needs,
+      search needs,
+      rw (e .0) (beside-more _ _ _ _ _ _ h (l .inv .2) refl (row-bytes (a .samples .now) (a .s) (a .indices .now) (l .k) (a .both))),
+      rw (e .1) (beside-more _ _ _ _ _ _ h (l .inv .3) refl (row-words (a .samples .now) (a .s) (a .indices .now) (l .k) (a .both))),
+      rw (e .2) (beside-more _ _ _ _ _ _ h (l .inv .4) refl (row-floats (a .samples .now) (a .s) (a .indices .now) (l .k) (a .both))),
+    )
 
 same-length : tie.Need-same-length Inv-loop μ-loop
 same-length c = c .before .loop .inv .1 ∙ sym (c .before .before .before .before .before .before .before .before .before .before .pre .2)

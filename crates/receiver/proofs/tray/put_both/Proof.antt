@@ -88,18 +88,20 @@ returns c =
     let a = s .args in
     let p = s .pre in
     let first = c .before .before .before .before .before .before .before .before .before .before .before .before .before .before .before .before .put-result in
+    let second = c .before .before .before .before .before .before .put-result2 in
     let one =
-        result-done _ _ _ (a .a .long) 14 (inr refl) (part-size 0 14 14 (a .message .now) refl (omega (arith, p .0))) (part-size 0 11 11 (a .words .now) refl (omega (arith, p .1)))
-        (part-size 0 2 2 (a .floats .now) refl (omega (arith, p .2))) (first .ensures) in
+    result-done _ _ _ (a .a .long) 14 (inr refl) (part-size 0 14 14 (a .message .now) refl (omega (arith, p .0))) (part-size 0 11 11 (a .words .now) refl (omega (arith, p .1)))
+    (part-size 0 2 2 (a .floats .now) refl (omega (arith, p .2))) (first .ensures) in
     let l : length (first .last .1 .0) ≡ 14 = ap length (one .0) ∙ length-take-le 14 (a .a .long .message) (omega (arith, p .3)) in
     let m : length (first .last .1 .1 .0) ≡ 11 = ap length (one .1) in
     let n : length (first .last .1 .1 .1 .0) ≡ 2 = ap length (one .2) in
     let two =
-        result-done _ _ _ (a .a .short) 7 (inl refl) (rest-size 14 7 (a .message .now) _ l (p .0)) (rest-size 11 11 (a .words .now) _ m (p .1)) (rest-size 2 2 (a .floats .now) _ n (p .2))
-        (c .before .before .before .before .before .before .put-result2 .ensures) in
-    (joined 14 21 (a .message .now) _ _ l (p .0) (omega arith) ∙ ap₂ (λ (x y : List ℕ). x ++ y) (one .0) (two .0),
-     joined 11 22 (a .words .now) _ _ m (p .1) (omega arith) ∙ ap₂ (λ (x y : List ℕ). x ++ y) (one .1) (two .1),
-     joined 2 4 (a .floats .now) _ _ n (p .2) (omega arith) ∙ ap₂ (λ (x y : List Float). x ++ y) (one .2) (two .2))
+    result-done _ _ _ (a .a .short) 7 (inl refl) (rest-size 14 7 (a .message .now) (first .last .1 .0) l (p .0)) (rest-size 11 11 (a .words .now) (first .last .1 .1 .0) m (p .1)) (rest-size 2 2 (a .floats .now) (first .last .1 .1 .1 .0) n (p .2))
+    (second .ensures) in (
+      joined 14 21 (a .message .now) (first .last .1 .0) (second .last .1 .0) l (p .0) (omega arith) ∙ ap₂ (λ (x y : List ℕ). x ++ y) (one .0) (two .0),
+      joined 11 22 (a .words .now) (first .last .1 .1 .0) (second .last .1 .1 .0) m (p .1) (omega arith) ∙ ap₂ (λ (x y : List ℕ). x ++ y) (one .1) (two .1),
+      joined 2 4 (a .floats .now) (first .last .1 .1 .1 .0) (second .last .1 .1 .1 .0) n (p .2) (omega arith) ∙ ap₂ (λ (x y : List Float). x ++ y) (one .2) (two .2),
+    )
 
 pub put-both-spec : {M : Type 1} → statement M
 put-both-spec =

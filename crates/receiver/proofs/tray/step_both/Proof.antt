@@ -101,9 +101,12 @@ put-both-requires : tie.Need-put-both-requires
 put-both-requires c κs =
     let s = c .before .before .before .before .before .before .before .before .before .before .before .before .before .before .before .before .before in
     let a = s .args in
-    let p = s .pre in
-    (part-size (21 * a .k) _ 21 _ refl (omega (arith, p .0, p .6)), part-size (22 * a .k) _ 22 _ refl (omega (arith, p .0, p .7)), part-size (4 * a .k) _ 4 _ refl (omega (arith, p .0, p .8)),
-     long-size _ _ _ (c .before .before .before .before .before .both-in .ensures .0))
+    let p = s .pre in (
+      part-size (21 * a .k) _ 21 _ refl (omega (arith, p .0, p .6)),
+      part-size (22 * a .k) _ 22 _ refl (omega (arith, p .0, p .7)),
+      part-size (4 * a .k) _ 4 _ refl (omega (arith, p .0, p .8)),
+      long-size _ _ _ (c .before .before .before .before .before .both-in .ensures .0),
+    )
 
 same-length : tie.Need-same-length
 same-length c = search needs

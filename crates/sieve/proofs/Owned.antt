@@ -19,9 +19,5 @@ pub two-owners : Owners 2 atTwo twoDisplacements twoOwners
 unfolding owner-rule sizes below-n read stands owns single-owns pair-owns pairs-own all-own grow singles singlesFrom twoDisplacements twoOwners
 two-owners = owner-law 2 11 11 13 twoDisplacements twoOwners tt
 
--- in the code's own words
-pub one-owners-as : {ds os : List ℕ} → ds ≡ oneDisplacements → os ≡ oneOwners → Owners 1 atOne ds os
-one-owners-as e g = rw (e, g) one-owners
-
 pub two-owners-as : {ds os : List ℕ} → ds ≡ twoDisplacements → os ≡ twoOwners → Owners 2 atTwo ds os
 two-owners-as e g = rw (e, g) two-owners

@@ -1,14 +1,14 @@
-// From the remainders to the places that so many repairs can clear. Where no hash is lent, each level's function has its own, and none
-// of them is alive when the sorted tables are asked.
+// From the remainders to the places that so many repairs can clear. A constant table is written out at the start of the function that
+// lends it: so each level's hash has its own, and none of them is alive when the sorted tables are asked.
 use crate::hash::Shape;
 use crate::keep::keep;
 use crate::keep::tell;
 use crate::list::gather;
 use crate::list::list_in;
-use crate::own::one_displacements;
-use crate::own::one_owners;
 use crate::own::two_displacements;
 use crate::own::two_owners;
+use crate::tables::ONE_DISPLACEMENTS;
+use crate::tables::ONE_OWNERS;
 use scan::list::Listed;
 ghost use mathlib.Core.Path.{_≡_};
 ghost use mathlib.Core.Bool.{true};
@@ -66,13 +66,11 @@ fn sift_one(m: usize, crcs: &[u32], others: &[u32], through: &mut [u16], asked: 
     requires { ⌜ (m ≤ 87) × (length (now crcs) ≡ 8 * m) × (length (now others) ≡ 8 * m) × (length (now through) ≡ 8 * m) × (length (now asked) ≡ 2 * (8 * m)) ⌝ }
     ensures { λ r. ⌜ Sifted 1 (8 * m) (now (crcs .entry)) (now (others .entry)) (now (through .exit)) (now (asked .exit)) r ⌝ }
 {
-    let displacements = one_displacements();
-    let owners = one_owners();
     sift_in(
         m,
         AT_ONE,
-        &displacements,
-        &owners,
+        &ONE_DISPLACEMENTS,
+        &ONE_OWNERS,
         crcs,
         others,
         through,

@@ -1,11 +1,10 @@
 // The hash that a caller may write out once and lend to many calls.
-use crate::own::one_displacements;
-use crate::own::one_owners;
 use crate::own::two_displacements;
 use crate::own::two_owners;
+use crate::tables::ONE_DISPLACEMENTS;
+use crate::tables::ONE_OWNERS;
 ghost use mathlib.Core.Path.{_≡_};
 ghost use lib.ListN.{length};
-ghost use Rattle.sieve.specs.Tables.{oneDisplacements, oneOwners, twoDisplacements, twoOwners};
 ghost use Rattle.sieve.specs.Hash.{hashInto};
 
 // Which bits of a remainder choose the displacement, which the slot, and which are the owner's.
@@ -34,22 +33,6 @@ fn put_owners(from: &[u16], to: &mut [u16])
     }
 }
 
-fn put_one(displacements: &mut [u8], owners: &mut [u16])
-    requires { ⌜ (length (now displacements) ≡ 128) × (length (now owners) ≡ 256) ⌝ }
-    ensures { λ _. ⌜ (now (displacements .exit) ≡ oneDisplacements) × (now (owners .exit) ≡ oneOwners) ⌝ }
-{
-    put_displacements(&one_displacements(), displacements);
-    put_owners(&one_owners(), owners);
-}
-
-fn put_two(displacements: &mut [u8], owners: &mut [u16])
-    requires { ⌜ (length (now displacements) ≡ 2048) × (length (now owners) ≡ 8192) ⌝ }
-    ensures { λ _. ⌜ (now (displacements .exit) ≡ twoDisplacements) × (now (owners .exit) ≡ twoOwners) ⌝ }
-{
-    put_displacements(&two_displacements(), displacements);
-    put_owners(&two_owners(), owners);
-}
-
 // To lent memory: 2,176 displacements and 8,448 owners, that of one error in front. Refused: 3 other sizes.
 pub fn write_hash(displacements: &mut [u8], owners: &mut [u16]) -> u32
     ensures { λ r. ⌜ (r, now (displacements .exit), now (owners .exit)) ≡ hashInto (now (displacements .entry)) (now (owners .entry)) ⌝ }
@@ -60,7 +43,9 @@ pub fn write_hash(displacements: &mut [u8], owners: &mut [u16]) -> u32
     if owners.len() != 8448 {
         return 3;
     }
-    put_one(&mut displacements[..128], &mut owners[..256]);
-    put_two(&mut displacements[128..], &mut owners[256..]);
+    put_displacements(&ONE_DISPLACEMENTS, &mut displacements[..128]);
+    put_displacements(&two_displacements(), &mut displacements[128..]);
+    put_owners(&ONE_OWNERS, &mut owners[..256]);
+    put_owners(&two_owners(), &mut owners[256..]);
     0
 }

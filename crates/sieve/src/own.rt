@@ -1,23 +1,8 @@
-// The hashes as values. A constant table is written out at the start of the function that names it: each is named here alone, and is
-// written to the place that the caller has for it.
-use crate::tables::ONE_DISPLACEMENTS;
-use crate::tables::ONE_OWNERS;
+// The larger hash as values: each of its tables is written out here alone, to the place that the caller has for it.
 use crate::tables::TWO_DISPLACEMENTS;
 use crate::tables::TWO_OWNERS;
 ghost use mathlib.Core.Path.{_≡_};
-ghost use Rattle.sieve.specs.Tables.{oneDisplacements, oneOwners, twoDisplacements, twoOwners};
-
-pub fn one_displacements() -> [u8; 128]
-    ensures { λ r. ⌜ r ≡ oneDisplacements ⌝ }
-{
-    ONE_DISPLACEMENTS
-}
-
-pub fn one_owners() -> [u16; 256]
-    ensures { λ r. ⌜ r ≡ oneOwners ⌝ }
-{
-    ONE_OWNERS
-}
+ghost use Rattle.sieve.specs.Tables.{twoDisplacements, twoOwners};
 
 pub fn two_displacements() -> [u8; 2048]
     ensures { λ r. ⌜ r ≡ twoDisplacements ⌝ }

@@ -103,7 +103,7 @@ returns-8 : tie.Need-returns-8
 returns-8 c =
     let a = c .before .before .before .before .before .before .before .before .before .before .before .before .before .before .before .before .before .before .before .before .before .before .before .before .before .before .before .before .before .before .args in
     let e = c .before .before .before .before .before .before .before .before .before .before .before .before .before .before in
-    sieved-done (bytesOf (a .short)) (mostOf (a .short)) _ (a .level) (now (a .displacements)) (now (a .owners)) (now (a .crcs)) (now (a .others)) (now (a .list)) (now (a .codes)) (c .before .before .before .before .before .before .before .before .before .before .before .before .before .at-most .result) (c .before .before .before .before .before .before .before .before .find .result) _ _ (sym (c .before .before .before .before .before .before .before .before .before .before .before .before .before .before .before .before .before .before .before .before .before .hash-fits .ensures) ∙ not-false (c .before .before .before .before .before .before .before .before .before .before .before .before .before .before .before .before .before .before .before .before .before .hash-fits .result) (c .before .before .before .before .before .before .before .before .before .before .before .before .before .before .before .before .before .before .before .before .if1 .left))
+    sieved-done (bytesOf (a .short)) (mostOf (a .short)) _ (a .level) (now (a .displacements)) (now (a .owners)) (now (a .crcs)) (now (a .others)) (now (a .list)) (now (a .codes)) _ _ _ _ (sym (c .before .before .before .before .before .before .before .before .before .before .before .before .before .before .before .before .before .before .before .before .before .hash-fits .ensures) ∙ not-false (c .before .before .before .before .before .before .before .before .before .before .before .before .before .before .before .before .before .before .before .before .before .hash-fits .result) (c .before .before .before .before .before .before .before .before .before .before .before .before .before .before .before .before .before .before .before .before .if1 .left))
     (e .before .before .before .before .before .if2 .left) (e .before .before .before .before .if3 .left) (e .before .before .before .if4 .left) (e .before .before .if5 .left)
     (omega (arith, e .before .if6 .left)) (c .before .before .before .before .before .before .before .before .before .before .before .before .before .at-most .ensures) (c .before .before .before .before .before .before .before .before .find .ensures)
 

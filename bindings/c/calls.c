@@ -303,6 +303,275 @@ static void undecided(void) {
     CHECK(worked_is(KHLONGRAE_COHERENT, -1, 7) && squitter_is(KHLONGRAE_NONCOHERENT, -1, 2));
 }
 
+/* The memory of a tray: room for one window more than there may be, of both kinds, and elements before and behind it. Whatever a call
+ * is lent, the rest must stay as it was. */
+enum {
+    MORE = KHLONGRAE_TRAY + 1,
+    BOTH_BYTES = KHLONGRAE_MESSAGE + KHLONGRAE_SHORT_MESSAGE,
+    BOTH_WORDS = 2 * KHLONGRAE_RESULT_WORDS,
+    BOTH_FLOATS = 2 * KHLONGRAE_FLOATS
+};
+struct tray {
+    uint8_t messages[1 + MORE * BOTH_BYTES + 1];
+    uint64_t words[1 + MORE * BOTH_WORDS + 1];
+    float floats[1 + MORE * BOTH_FLOATS + 1];
+};
+struct tray_inputs {
+    float samples[MORE * KHLONGRAE_WINDOW + 1];
+    uint64_t indices[MORE + 1];
+};
+static struct tray tray_pattern, tray;
+static struct tray_inputs inputs, inputs_kept;
+
+/* the two trays: what of the lent memory each window gets */
+static const struct tray_kind {
+    uint32_t (*call)(size_t count, const float *samples, size_t samples_len, uint32_t level, float threshold, float second,
+                     uint32_t distance, const uint64_t *indices, size_t indices_len, uint8_t *messages, size_t messages_len,
+                     uint64_t *words, size_t words_len, float *floats, size_t floats_len);
+    size_t bytes, words, floats;
+} TRAYS[2] = {{khlongrae_tray, KHLONGRAE_MESSAGE, KHLONGRAE_RESULT_WORDS, KHLONGRAE_FLOATS},
+              {khlongrae_tray_both, BOTH_BYTES, BOTH_WORDS, BOTH_FLOATS}};
+
+struct tray_call {
+    size_t windows; /* for so many the memory is */
+    uint32_t level;
+    float threshold, second;
+    uint32_t distance;
+    int count, samples, indices, messages, words, floats; /* by how much each is more than it must be for them */
+};
+
+static uint32_t call_tray(const struct tray_kind *kind, struct tray_call c) {
+    memcpy(&tray, &tray_pattern, sizeof tray);
+    memcpy(&inputs_kept, &inputs, sizeof inputs);
+    return kind->call(c.windows + (size_t)c.count, inputs.samples, KHLONGRAE_WINDOW * c.windows + (size_t)c.samples, c.level, c.threshold,
+                      c.second, c.distance, inputs.indices, c.windows + (size_t)c.indices, tray.messages + 1,
+                      kind->bytes * c.windows + (size_t)c.messages, tray.words + 1, kind->words * c.windows + (size_t)c.words,
+                      tray.floats + 1, kind->floats * c.windows + (size_t)c.floats);
+}
+
+static int nothing_written(void) {
+    return memcmp(&tray, &tray_pattern, sizeof tray) == 0 && memcmp(&inputs, &inputs_kept, sizeof inputs) == 0;
+}
+
+/* nothing is written before the results of so many windows, nor behind them */
+static int nothing_else_written(const struct tray_kind *kind, size_t windows) {
+    memset(tray.messages + 1, 0xA5, kind->bytes * windows);
+    memset(tray.words + 1, 0xA5, kind->words * windows * sizeof tray.words[0]);
+    memset(tray.floats + 1, 0xA5, kind->floats * windows * sizeof tray.floats[0]);
+    return nothing_written();
+}
+
+/* what is sent in a window */
+enum sent { NOTHING_SENT, LONG_SENT, SHORT_SENT, BOTH_SENT, ONE_DAMAGED, TWO_DAMAGED, SENT };
+
+/* puts a window into the tray: what is sent comes so many samples later, and a bit stronger, than in the window before */
+static void put(size_t k, enum sent sent, uint64_t index) {
+    uint8_t damaged[KHLONGRAE_MESSAGE];
+    int later = (int)k;
+    memcpy(damaged, WORKED, sizeof damaged);
+    if (sent == ONE_DAMAGED) damaged[5] ^= 0x80;
+    if (sent == TWO_DAMAGED) damaged[5] ^= 0xC0;
+    silence();
+    if (sent != NOTHING_SENT && sent != SHORT_SENT) send(damaged, KHLONGRAE_MESSAGE, 128 + later, REAL, 1.0f + (float)k / 64);
+    if (sent == SHORT_SENT) send(SQUITTER, KHLONGRAE_SHORT_MESSAGE, 500 + later, REAL, 1.0f);
+    if (sent == BOTH_SENT) send(SQUITTER, KHLONGRAE_SHORT_MESSAGE, 500 + later, IMAGINARY, 8.0f);
+    memcpy(inputs.samples + KHLONGRAE_WINDOW * k, samples, sizeof samples);
+    inputs.indices[k] = index;
+}
+
+/* a part of a result has this number and these fields, or zeros where the number is not 0 */
+static int part_is(uint32_t number, const struct lent *fields, size_t bytes, const uint8_t *message, const uint64_t *words,
+                   const float *floats) {
+    static const struct lent zeros = {{0}, {0}, {0}};
+    if (number != KHLONGRAE_DONE) fields = &zeros;
+    return words[KHLONGRAE_WORD_NUMBER] == number && memcmp(message, fields->message, bytes) == 0 &&
+           memcmp(words, fields->words, KHLONGRAE_WORDS * sizeof words[0]) == 0 &&
+           memcmp(floats, fields->floats, KHLONGRAE_FLOATS * sizeof floats[0]) == 0;
+}
+
+/* result k of a tray is what the single calls answer for window k, its index and the setting */
+static int result_is_single(const struct tray_kind *kind, size_t k, struct tray_call t) {
+    const uint8_t *message = tray.messages + 1 + kind->bytes * k;
+    const uint64_t *words = tray.words + 1 + kind->words * k;
+    const float *floats = tray.floats + 1 + kind->floats * k;
+    struct call c = GOOD;
+    c.level = t.level;
+    c.threshold = t.threshold;
+    c.second = t.second;
+    c.distance = t.distance;
+    c.index = inputs.indices[k];
+    memcpy(samples, inputs.samples + KHLONGRAE_WINDOW * k, sizeof samples);
+    uint32_t number = decode(c), short_number = decode_short(c);
+    return part_is(number, &lent, KHLONGRAE_MESSAGE, message, words, floats) &&
+           (kind == &TRAYS[0] || part_is(short_number, &short_lent, KHLONGRAE_SHORT_MESSAGE, message + KHLONGRAE_MESSAGE,
+                                         words + KHLONGRAE_RESULT_WORDS, floats + KHLONGRAE_FLOATS));
+}
+
+/* the number of result k, of its long message or of its short one */
+static uint64_t number_of(const struct tray_kind *kind, size_t k, int of_short) {
+    return tray.words[1 + kind->words * k + (size_t)of_short * KHLONGRAE_RESULT_WORDS + KHLONGRAE_WORD_NUMBER];
+}
+
+/* a long message, a short one, silence, both: what is known of them, and what the single calls say */
+static void tray_answers(void) {
+    static const enum sent row[4] = {LONG_SENT, SHORT_SENT, NOTHING_SENT, BOTH_SENT};
+    static const uint64_t found[KHLONGRAE_RESULT_WORDS] = {1000, 15, 3, 1, 0, 0, 0, KHLONGRAE_COHERENT, 0, 1, KHLONGRAE_DONE};
+    static const uint64_t short_found[KHLONGRAE_RESULT_WORDS] = {2373, 62, 0, 1, 0, 0, 0, KHLONGRAE_COHERENT, 0, 1, KHLONGRAE_DONE};
+    struct tray_call t = {4, 2, 67, 71, 8, 0, 0, 0, 0, 0, 0};
+    for (size_t k = 0; k < 4; k++) put(k, row[k], 1000 * (k + 1));
+    for (const struct tray_kind *kind = TRAYS; kind < TRAYS + 2; kind++) {
+        CHECK(call_tray(kind, t) == KHLONGRAE_DONE);
+        for (size_t k = 0; k < 4; k++) {
+            uint64_t long_one = row[k] == LONG_SENT || row[k] == BOTH_SENT ? KHLONGRAE_DONE : KHLONGRAE_NO_MESSAGE;
+            uint64_t short_one = row[k] == SHORT_SENT || row[k] == BOTH_SENT ? KHLONGRAE_DONE : KHLONGRAE_NO_MESSAGE;
+            CHECK(number_of(kind, k, 0) == long_one && (kind == &TRAYS[0] || number_of(kind, k, 1) == short_one));
+            CHECK(result_is_single(kind, k, t));
+        }
+        CHECK(memcmp(tray.messages + 1, WORKED, 14) == 0 && memcmp(tray.messages + 1 + 3 * kind->bytes, WORKED, 14) == 0);
+        CHECK(memcmp(tray.words + 1, found, sizeof found) == 0);
+        CHECK(isinf(tray.floats[1 + KHLONGRAE_FLOAT_CN0]) && tray.floats[1 + KHLONGRAE_FLOAT_FRACTION] == -0.5f);
+        if (kind == &TRAYS[1]) {
+            CHECK(memcmp(tray.messages + 1 + BOTH_BYTES + 14, SQUITTER, 7) == 0);
+            CHECK(memcmp(tray.messages + 1 + 3 * BOTH_BYTES + 14, SQUITTER, 7) == 0);
+            CHECK(memcmp(tray.words + 1 + BOTH_WORDS + KHLONGRAE_RESULT_WORDS, short_found, sizeof short_found) == 0);
+            CHECK(isinf(tray.floats[1 + BOTH_FLOATS + KHLONGRAE_FLOATS + KHLONGRAE_FLOAT_CN0]));
+        }
+        CHECK(nothing_else_written(kind, 4));
+    }
+}
+
+/* 64 windows with all that can be sent, at each level; bad indices first, last and in between trouble their own windows alone */
+static void whole_trays(void) {
+    static const struct { size_t at; uint64_t index; } bad[] = {
+        {0, 127}, {1, 0}, {30, ((uint64_t)1 << 63) + 1}, {31, 127}, {47, UINT64_MAX}, {63, ((uint64_t)1 << 63) + 1}};
+    struct tray_call t = {KHLONGRAE_TRAY, 2, 67, 71, 8, 0, 0, 0, 0, 0, 0};
+    for (int with_bad = 0; with_bad < 2; with_bad++) {
+        for (size_t k = 0; k < KHLONGRAE_TRAY; k++) put(k, (enum sent)(k % SENT), k % 2 == 0 ? 128 + k : ((uint64_t)1 << 63) - k);
+        inputs.indices[2] = (uint64_t)1 << 63;
+        for (size_t b = 0; b < sizeof bad / sizeof bad[0] && with_bad; b++) inputs.indices[bad[b].at] = bad[b].index;
+        for (t.level = 0; t.level < 3; t.level++) {
+            for (const struct tray_kind *kind = TRAYS; kind < TRAYS + 2; kind++) {
+                unsigned numbers[7] = {0}, short_numbers[7] = {0};
+                CHECK(call_tray(kind, t) == KHLONGRAE_DONE);
+                for (size_t k = 0; k < KHLONGRAE_TRAY; k++) {
+                    CHECK(result_is_single(kind, k, t));
+                    numbers[number_of(kind, k, 0) % 7]++;
+                    short_numbers[number_of(kind, k, 1) % 7]++;
+                }
+                CHECK(numbers[KHLONGRAE_DONE] + numbers[KHLONGRAE_NO_MESSAGE] + numbers[KHLONGRAE_INDEX] == KHLONGRAE_TRAY);
+                CHECK(numbers[KHLONGRAE_INDEX] == (with_bad ? sizeof bad / sizeof bad[0] : 0));
+                /* 11 windows each hold a long message, a short one, both; 10 each a long one with one damaged bit, and with two */
+                CHECK(with_bad || numbers[KHLONGRAE_DONE] == (t.level == 0 ? 22 : t.level == 1 ? 32 : 42));
+                CHECK(kind == &TRAYS[0] || short_numbers[KHLONGRAE_INDEX] == numbers[KHLONGRAE_INDEX]);
+                CHECK(kind == &TRAYS[0] || with_bad || short_numbers[KHLONGRAE_DONE] == 22);
+                CHECK(nothing_else_written(kind, KHLONGRAE_TRAY));
+            }
+        }
+    }
+
+    /* the thresholds and the distance are those of each window: what two repairs have found is dropped below them */
+    for (size_t k = 0; k < 3; k++) {
+        put(k, TWO_DAMAGED, 128);
+        inputs.samples[KHLONGRAE_WINDOW * k] = 1.0f + (float)k; /* a noise that can be told */
+    }
+    t.windows = 3;
+    t.level = 2;
+    for (int high = 0; high < 2; high++) {
+        t.threshold = high ? 3e38f : -3e38f;
+        for (const struct tray_kind *kind = TRAYS; kind < TRAYS + 2; kind++) {
+            CHECK(call_tray(kind, t) == KHLONGRAE_DONE);
+            for (size_t k = 0; k < 3; k++) CHECK(result_is_single(kind, k, t));
+        }
+    }
+}
+
+/* both trays answer this number to the changed call, and write nothing */
+#define TRAY_REFUSED(number, change)                                                                                           \
+    do {                                                                                                                       \
+        for (const struct tray_kind *kind = TRAYS; kind < TRAYS + 2; kind++) {                                                 \
+            struct tray_call t = {sizes[s], 2, 67, 71, 8, 0, 0, 0, 0, 0, 0};                                                   \
+            change;                                                                                                            \
+            CHECK(call_tray(kind, t) == number && nothing_written());                                                          \
+        }                                                                                                                      \
+    } while (0)
+
+static void refused_trays(void) {
+    static const size_t sizes[4] = {1, 2, 63, KHLONGRAE_TRAY};
+    for (size_t k = 0; k < MORE; k++) put(k, LONG_SENT, 128);
+    for (size_t s = 0; s < 4; s++) {
+        for (int off = -1; off <= 1; off += 2) {
+            TRAY_REFUSED(KHLONGRAE_INPUT_LENGTH, t.count = off);
+            TRAY_REFUSED(KHLONGRAE_INPUT_LENGTH, t.samples = off);
+            TRAY_REFUSED(KHLONGRAE_INPUT_LENGTH, t.samples = off * KHLONGRAE_WINDOW);
+            TRAY_REFUSED(KHLONGRAE_INPUT_LENGTH, t.indices = off);
+            TRAY_REFUSED(KHLONGRAE_INPUT_LENGTH, (t.count = off, t.samples = off * KHLONGRAE_WINDOW));
+            TRAY_REFUSED(KHLONGRAE_INPUT_LENGTH, (t.count = off, t.indices = off));
+            TRAY_REFUSED(KHLONGRAE_OUTPUT_LENGTH, t.messages = off);
+            TRAY_REFUSED(KHLONGRAE_OUTPUT_LENGTH, t.words = off);
+            TRAY_REFUSED(KHLONGRAE_OUTPUT_LENGTH, t.floats = off);
+            TRAY_REFUSED(KHLONGRAE_OUTPUT_LENGTH, (t.messages = off, t.words = -off, t.floats = off));
+        }
+        TRAY_REFUSED(KHLONGRAE_OUTPUT_LENGTH, t.words = -(int)t.windows); /* without the numbers */
+        TRAY_REFUSED(KHLONGRAE_LEVEL, t.level = 3);
+        TRAY_REFUSED(KHLONGRAE_LEVEL, t.level = UINT32_MAX);
+        TRAY_REFUSED(KHLONGRAE_THRESHOLD, t.threshold = NAN);
+        TRAY_REFUSED(KHLONGRAE_THRESHOLD, t.threshold = INFINITY);
+        TRAY_REFUSED(KHLONGRAE_THRESHOLD, t.threshold = -INFINITY);
+        TRAY_REFUSED(KHLONGRAE_THRESHOLD, t.second = NAN);
+        TRAY_REFUSED(KHLONGRAE_THRESHOLD, t.second = INFINITY);
+        TRAY_REFUSED(KHLONGRAE_THRESHOLD, t.second = -INFINITY);
+
+        /* all is wrong, then one thing less; a bad index is no refusal */
+        inputs.indices[0] = 0;
+        TRAY_REFUSED(KHLONGRAE_INPUT_LENGTH, (t.count = 1, t.samples = 1, t.indices = -1, t.words = 1, t.level = 3, t.second = NAN));
+        TRAY_REFUSED(KHLONGRAE_INPUT_LENGTH, (t.samples = 1, t.indices = -1, t.words = 1, t.level = 3, t.second = NAN));
+        TRAY_REFUSED(KHLONGRAE_INPUT_LENGTH, (t.indices = -1, t.words = 1, t.level = 3, t.second = NAN));
+        TRAY_REFUSED(KHLONGRAE_OUTPUT_LENGTH, (t.words = 1, t.level = 3, t.second = NAN));
+        TRAY_REFUSED(KHLONGRAE_LEVEL, (t.level = 3, t.second = NAN));
+        TRAY_REFUSED(KHLONGRAE_THRESHOLD, t.second = NAN);
+        for (const struct tray_kind *kind = TRAYS; kind < TRAYS + 2; kind++) {
+            struct tray_call t = {sizes[s], 2, 67, 71, 8, 0, 0, 0, 0, 0, 0};
+            CHECK(call_tray(kind, t) == KHLONGRAE_DONE && number_of(kind, 0, 0) == KHLONGRAE_INDEX);
+            CHECK(nothing_else_written(kind, sizes[s]));
+        }
+        inputs.indices[0] = 128;
+    }
+
+    /* one window too many, with all that 65 need; the memory of one kind for the other */
+    for (const struct tray_kind *kind = TRAYS; kind < TRAYS + 2; kind++) {
+        const struct tray_kind *other = kind == TRAYS ? TRAYS + 1 : TRAYS;
+        struct tray_call t = {MORE, 2, 67, 71, 8, 0, 0, 0, 0, 0, 0};
+        CHECK(call_tray(kind, t) == KHLONGRAE_INPUT_LENGTH && nothing_written());
+        t.level = 3;
+        CHECK(call_tray(kind, t) == KHLONGRAE_INPUT_LENGTH && nothing_written());
+        t.windows = 2;
+        t.level = 2;
+        t.messages = 2 * (int)(other->bytes - kind->bytes);
+        t.words = 2 * (int)(other->words - kind->words);
+        t.floats = 2 * (int)(other->floats - kind->floats);
+        CHECK(call_tray(kind, t) == KHLONGRAE_OUTPUT_LENGTH && nothing_written());
+    }
+}
+
+/* no windows: nothing is lent, and the settings are looked at all the same */
+static void empty_trays(void) {
+    static const size_t most = SIZE_MAX / 2 + 1; /* so many times 2,310 is 0 again */
+    for (const struct tray_kind *kind = TRAYS; kind < TRAYS + 2; kind++) {
+#define EMPTY(count, level, threshold, second)                                                                                 \
+    kind->call(count, NULL, 0, level, threshold, second, 8, NULL, 0, NULL, 0, NULL, 0, NULL, 0)
+        CHECK(EMPTY(0, 2, 67, 71) == KHLONGRAE_DONE);
+        CHECK(EMPTY(0, 3, 67, 71) == KHLONGRAE_LEVEL && EMPTY(0, 3, NAN, 71) == KHLONGRAE_LEVEL);
+        CHECK(EMPTY(0, 2, NAN, 71) == KHLONGRAE_THRESHOLD && EMPTY(0, 2, 67, INFINITY) == KHLONGRAE_THRESHOLD);
+        CHECK(EMPTY(1, 2, 67, 71) == KHLONGRAE_INPUT_LENGTH && EMPTY(most, 2, 67, 71) == KHLONGRAE_INPUT_LENGTH);
+        for (int off = 0; off < 5; off++) {
+            struct tray_call t = {0, 2, 67, 71, 8, 0, off == 0, off == 1, off == 2, off == 3, off == 4};
+            CHECK(call_tray(kind, t) == (off < 2 ? KHLONGRAE_INPUT_LENGTH : KHLONGRAE_OUTPUT_LENGTH) && nothing_written());
+        }
+        struct tray_call none = {0, 2, 67, 71, 8, 0, 0, 0, 0, 0, 0};
+        CHECK(call_tray(kind, none) == KHLONGRAE_DONE && nothing_written());
+    }
+}
+
 /* what the header says of another rounding: the call ends, its floats have other bits, and the rounding stays as it was set */
 static void environments(void) {
     static const int roundings[3] = {FE_UPWARD, FE_DOWNWARD, FE_TOWARDZERO};
@@ -424,11 +693,16 @@ static void carriers(void) {
 int main(void) {
     CHECK(khlongrae_version() == KHLONGRAE_VERSION);
     memset(&pattern, 0xA5, sizeof pattern);
+    memset(&tray_pattern, 0xA5, sizeof tray_pattern);
     decodes();
     short_decodes();
     both_decodes();
     trials();
     undecided();
+    tray_answers();
+    whole_trays();
+    refused_trays();
+    empty_trays();
     environments();
     messages();
     headers();

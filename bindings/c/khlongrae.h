@@ -3,7 +3,8 @@
  * Every function is proved to answer its definition, whatever it is given (docs/CONTRACTS.md names each). It keeps no state, takes
  * nothing from the heap and calls nothing but memcpy, memmove and memset, so that any number of threads may call it. A decode takes
  * some 49 KiB of stack, and one of both kinds some 58 KiB: 49,320 and 59,096 bytes at most as it was measured for x86-64, and for
- * Arm, before undecided bits were counted, 48,672 and 58,384; tools/stack measures it.
+ * Arm, before undecided bits were counted, 48,672 and 58,384. A tray takes NN,NNN bytes at most, and one of both kinds NN,NNN, for
+ * x86-64; tools/stack measures it.
  *
  * A slice is a pointer and a length, in elements. The library checks every length itself and refuses a wrong one. What it cannot
  * check is left to the caller: that a pointer is good for its length (with length 0 it may be null), that it is aligned for the type
@@ -36,7 +37,7 @@ extern "C" {
 enum khlongrae_number {
     KHLONGRAE_DONE = 0,          /* done */
     KHLONGRAE_NO_MESSAGE = 1,    /* a decode: no place of the window holds a reading that the settings let pass */
-    KHLONGRAE_INPUT_LENGTH = 2,  /* a lent input has the wrong length */
+    KHLONGRAE_INPUT_LENGTH = 2,  /* a lent input has the wrong length, or a tray has too many windows */
     KHLONGRAE_OUTPUT_LENGTH = 3, /* a lent output has the wrong length */
     KHLONGRAE_LEVEL = 4,         /* a level, or a count of repairs, that is not 0, 1 or 2 */
     KHLONGRAE_THRESHOLD = 5,     /* a threshold that is infinite or no number; a carrier's also where it is below 0 (-0.0 is taken) */
@@ -46,18 +47,20 @@ enum khlongrae_number {
     KHLONGRAE_HALF_WIDTH = 9     /* a half-width that is too large for the spectrum */
 };
 
-/* The lengths that the decodes and khlongrae_avr take. bindings/rust has each under the same name, without the prefix. */
+/* The lengths that the decodes, the trays and khlongrae_avr take. bindings/rust has each under the same name, without the prefix. */
 enum khlongrae_length {
     KHLONGRAE_WINDOW = 2310,     /* numbers of a window: 1,155 samples, each a real part and an imaginary part */
     KHLONGRAE_MESSAGE = 14,      /* bytes of a message */
     KHLONGRAE_SHORT_MESSAGE = 7, /* bytes of a short one */
     KHLONGRAE_WORDS = 10,        /* whole numbers of a decode */
     KHLONGRAE_FLOATS = 2,        /* floats of a decode */
+    KHLONGRAE_TRAY = 64,         /* the most windows of a tray */
+    KHLONGRAE_RESULT_WORDS = 11, /* whole numbers of a tray's result: those of a decode, and its number */
     KHLONGRAE_LINE = 30,         /* bytes of the AVR line of a message */
     KHLONGRAE_SHORT_LINE = 16    /* bytes of that of a short one */
 };
 
-/* The whole numbers of a decode, by their place in `words`. */
+/* The whole numbers of a decode, by their place in `words`; those of a tray's result, by their place in its part of `words`. */
 enum khlongrae_word {
     KHLONGRAE_WORD_INDEX = 0,     /* when the message came: the number of its first sample, at 8,000,000 samples a second */
     KHLONGRAE_WORD_BIT = 1,       /* where it was read: bit offset, 1 to 31, of a short message 1 to 87, */
@@ -72,9 +75,10 @@ enum khlongrae_word {
                                      strictly greater than the other by what the slicer compares, so they were equal or one was no number.
                                      Such a bit is read as 0, but nothing was received that tells 0 from 1. Bits are counted as they were
                                      read: one that was turned over may be among them. 0 here and 0 repairs: every bit was received */
-    KHLONGRAE_WORD_TRIAL = 9      /* which of the six trials found it, 1 to 6, of a short message 1 to 4: 1 + 2 * repairs + slicer. A
+    KHLONGRAE_WORD_TRIAL = 9,     /* which of the six trials found it, 1 to 6, of a short message 1 to 4: 1 + 2 * repairs + slicer. A
                                      place is tried in this order: without a repair, with one, with two, each time by the real part and
                                      then by the norm */
+    KHLONGRAE_WORD_NUMBER = 10    /* of a tray's result alone: its number, 0, 1 where the window holds no message, 6 for its index */
 };
 
 enum khlongrae_slicer {
@@ -137,6 +141,40 @@ struct khlongrae_both_answer khlongrae_decode_both(const float *samples, size_t 
                                                    uint64_t *words, size_t words_len, float *floats, size_t floats_len,
                                                    uint8_t *short_message, size_t short_message_len, uint64_t *short_words,
                                                    size_t short_words_len, float *short_floats, size_t short_floats_len);
+
+/* A tray: many windows in one call, with one setting. Result k is exactly what khlongrae_decode answers for window k, its index and the
+ * setting.
+ *
+ *   count      how many windows: 0 to 64
+ *   samples    2,310 numbers for each window, one window behind another
+ *   level, threshold, second, distance
+ *              as for khlongrae_decode
+ *   indices    one for each window: the receiver's number of its sample 128
+ *   messages   14 bytes for each window: those of window k from 14 * k on
+ *   words      11 whole numbers for each: from 11 * k on those of enum khlongrae_word, the last of them the result's number
+ *   floats     2 floats for each: from 2 * k on those of enum khlongrae_float
+ *
+ * The number of a result is 0, or 1 where its window holds no message, or 6 where its index is below 128 or above 2^63: that is the
+ * window's alone, and the others go on. Where it is not 0 the other fields of the result are zeros, written as such, unlike in the
+ * single call.
+ *
+ * Answers 0 and has written every result, or has written nothing: 2 (a count above 64, samples that are not 2,310 for each window, or
+ * indices that are not one for each), 3 (outputs of another length), 4 or 5. With the count 0 there is nothing to write, and the settings
+ * are looked at all the same. */
+uint32_t khlongrae_tray(size_t count, const float *samples, size_t samples_len, uint32_t level, float threshold, float second,
+                        uint32_t distance, const uint64_t *indices, size_t indices_len, uint8_t *messages, size_t messages_len,
+                        uint64_t *words, size_t words_len, float *floats, size_t floats_len);
+
+/* The same with both searches of each window: result k is what khlongrae_decode_both answers.
+ *
+ *   messages   21 bytes for each window: 14 of the long message, then 7 of the short one
+ *   words      22 whole numbers for each: 11 of the long message, then 11 of the short one, each with its own number
+ *   floats     4 floats for each: 2 and 2
+ *
+ * A bad index is 6 as both numbers. */
+uint32_t khlongrae_tray_both(size_t count, const float *samples, size_t samples_len, uint32_t level, float threshold, float second,
+                             uint32_t distance, const uint64_t *indices, size_t indices_len, uint8_t *messages, size_t messages_len,
+                             uint64_t *words, size_t words_len, float *floats, size_t floats_len);
 
 /* Writes the AVR line of a message of 7 or 14 bytes: `*`, two capital hex digits for each byte, `;`. The line has exactly 16 or 30
  * bytes, with no zero behind it. Answers 0, or 2 (another length of the message), or 3 (another length of the line). */

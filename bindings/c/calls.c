@@ -468,19 +468,31 @@ static void whole_trays(void) {
             }
         }
     }
+}
 
-    /* the thresholds and the distance are those of each window: what two repairs have found is dropped below them */
-    for (size_t k = 0; k < 3; k++) {
-        put(k, TWO_DAMAGED, 128);
-        inputs.samples[KHLONGRAE_WINDOW * k] = 1.0f + (float)k; /* a noise that can be told */
+/* the thresholds and the distance hold for each window: window 0 has a message with two damaged bits in the real part, window 1 has it
+ * where the norm alone reads it */
+static void tray_thresholds(void) {
+    static const struct { float threshold, second; uint32_t distance; uint64_t numbers[2]; } rows[] = {
+        {-3e38f, -3e38f, 0, {KHLONGRAE_DONE, KHLONGRAE_DONE}},
+        {3e38f, -3e38f, 0, {KHLONGRAE_NO_MESSAGE, KHLONGRAE_NO_MESSAGE}},
+        {-3e38f, 3e38f, 8, {KHLONGRAE_DONE, KHLONGRAE_NO_MESSAGE}},
+        {-3e38f, 3e38f, 113, {KHLONGRAE_DONE, KHLONGRAE_DONE}}};
+    uint8_t damaged[KHLONGRAE_MESSAGE];
+    memcpy(damaged, WORKED, sizeof damaged);
+    damaged[5] ^= 0xC0;
+    for (size_t k = 0; k < 2; k++) {
+        silence();
+        send(damaged, KHLONGRAE_MESSAGE, 128, k == 0 ? REAL : IMAGINARY, 1.0f);
+        send(damaged, KHLONGRAE_MESSAGE, 132, k == 0 ? REAL : IMAGINARY, 0.125f); /* between the pulses: cn0 is finite */
+        memcpy(inputs.samples + KHLONGRAE_WINDOW * k, samples, sizeof samples);
+        inputs.indices[k] = 128;
     }
-    t.windows = 3;
-    t.level = 2;
-    for (int high = 0; high < 2; high++) {
-        t.threshold = high ? 3e38f : -3e38f;
+    for (size_t r = 0; r < sizeof rows / sizeof rows[0]; r++) {
+        struct tray_call t = {2, 2, rows[r].threshold, rows[r].second, rows[r].distance, 0, 0, 0, 0, 0, 0};
         for (const struct tray_kind *kind = TRAYS; kind < TRAYS + 2; kind++) {
             CHECK(call_tray(kind, t) == KHLONGRAE_DONE);
-            for (size_t k = 0; k < 3; k++) CHECK(result_is_single(kind, k, t));
+            for (size_t k = 0; k < 2; k++) CHECK(number_of(kind, k, 0) == rows[r].numbers[k] && result_is_single(kind, k, t));
         }
     }
 }
@@ -701,6 +713,7 @@ int main(void) {
     undecided();
     tray_answers();
     whole_trays();
+    tray_thresholds();
     refused_trays();
     empty_trays();
     environments();

@@ -3,7 +3,8 @@
 //! The library checks every length and every setting itself, so the calls here check nothing: they hand slices over, and turn a
 //! number into a [`Refusal`]. A refused call leaves lent memory as it was. Where several refusals apply, the lowest number from 2
 //! up is told. No call keeps state, takes memory from the heap, or panics (but for an archive of another interface, see
-//! [`version`]); a decode takes some 49 KiB of stack, one of both kinds some 58 KiB. [`raw`] has the library's functions as they are.
+//! [`version`]); a decode takes some 49 KiB of stack, one of both kinds some 58 KiB. [`Tray`] decodes many windows in one call. [`raw`] has
+//! the library's functions as they are.
 //!
 //! The proof is of the library in the default float environment, which `khlongrae.h` describes. What is written in Rust here is not
 //! proved: the names and texts of an answer's fields, [`Answer::received`], and the reader of files.
@@ -28,6 +29,7 @@ mod message;
 pub mod raw;
 mod refusal;
 mod repairs;
+mod tray;
 mod window;
 
 pub use address::{Address, AddressKind, address_kind};
@@ -35,9 +37,10 @@ pub use carrier::{Carrier, Strongest, carrier_notched_power, check_carrier_metri
 #[cfg(feature = "std")]
 pub use file::{FileError, MOST_WINDOWS, Malformed, Window, Windows};
 pub use message::{AvrLine, avr, header, header_short, remainder};
-pub use raw::{FLOATS, LINE, MESSAGE, SHORT_LINE, SHORT_MESSAGE, VERSION, WINDOW, WORDS};
+pub use raw::{FLOATS, LINE, MESSAGE, RESULT_WORDS, SHORT_LINE, SHORT_MESSAGE, TRAY, VERSION, WINDOW, WORDS};
 pub use refusal::Refusal;
 pub use repairs::{Positions, Repairs};
+pub use tray::{Tray, tray_both_into, tray_into};
 pub use window::{
     Answer, BothAnswers, Place, Settings, ShortAnswer, Slicer, decode, decode_both, decode_into, decode_short, decode_short_into,
 };

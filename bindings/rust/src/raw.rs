@@ -12,7 +12,7 @@ pub const VERSION: u32 = 3;
 pub const DONE: u32 = 0;
 /// A decode: no place of the window holds a reading that the settings let pass.
 pub const NO_MESSAGE: u32 = 1;
-/// A lent input has the wrong length.
+/// A lent input has the wrong length, or a tray has too many windows.
 pub const INPUT_LENGTH: u32 = 2;
 /// A lent output has the wrong length.
 pub const OUTPUT_LENGTH: u32 = 3;
@@ -39,6 +39,10 @@ pub const SHORT_MESSAGE: usize = 7;
 pub const WORDS: usize = 10;
 /// Floats of a decode.
 pub const FLOATS: usize = 2;
+/// The most windows of a tray.
+pub const TRAY: usize = 64;
+/// Whole numbers of a tray's result: those of a decode, and its number.
+pub const RESULT_WORDS: usize = 11;
 /// Bytes of the AVR line of a message.
 pub const LINE: usize = 30;
 /// Bytes of the AVR line of a short message.
@@ -64,6 +68,8 @@ pub const WORD_SLICER: usize = 7;
 pub const WORD_UNDECIDED: usize = 8;
 /// Of the words, which of the six trials found the message.
 pub const WORD_TRIAL: usize = 9;
+/// Of the words of a tray's result alone, its number: 0, 1 where the window holds no message, 6 for its index.
+pub const WORD_NUMBER: usize = 10;
 
 /// The slicer by the real part.
 pub const COHERENT: u64 = 0;
@@ -211,6 +217,42 @@ unsafe extern "C" {
         short_floats: *mut f32,
         short_floats_len: usize,
     ) -> Both;
+    /// What [`khlongrae_decode`] answers for each of many windows.
+    pub fn khlongrae_tray(
+        count: usize,
+        samples: *const f32,
+        samples_len: usize,
+        level: u32,
+        threshold: f32,
+        second: f32,
+        distance: u32,
+        indices: *const u64,
+        indices_len: usize,
+        messages: *mut u8,
+        messages_len: usize,
+        words: *mut u64,
+        words_len: usize,
+        floats: *mut f32,
+        floats_len: usize,
+    ) -> u32;
+    /// What [`khlongrae_decode_both`] answers for each of many windows.
+    pub fn khlongrae_tray_both(
+        count: usize,
+        samples: *const f32,
+        samples_len: usize,
+        level: u32,
+        threshold: f32,
+        second: f32,
+        distance: u32,
+        indices: *const u64,
+        indices_len: usize,
+        messages: *mut u8,
+        messages_len: usize,
+        words: *mut u64,
+        words_len: usize,
+        floats: *mut f32,
+        floats_len: usize,
+    ) -> u32;
     /// Writes the AVR line of a message.
     pub fn khlongrae_avr(message: *const u8, message_len: usize, line: *mut u8, line_len: usize) -> u32;
     /// The remainder of a string of bytes.

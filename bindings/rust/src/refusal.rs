@@ -7,7 +7,7 @@ use core::fmt;
 #[derive(Clone, Copy, Debug, PartialEq, Eq, Hash)]
 #[repr(u32)]
 pub enum Refusal {
-    /// A lent input has the wrong length.
+    /// A lent input has the wrong length, or a tray has too many windows.
     InputLength = raw::INPUT_LENGTH,
     /// A lent output has the wrong length.
     OutputLength = raw::OUTPUT_LENGTH,

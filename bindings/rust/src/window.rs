@@ -143,24 +143,29 @@ impl<const N: usize> Lent<N> {
 
     /// What is written there, if something is.
     fn answer(&self, written: bool) -> Option<Answer<N>> {
-        // All but the index are small: it is proved that the place is one of the 248 or 696, that a position lies in the message, that
-        // what is counted are bits of the message, and that a trial is at most the sixth.
-        let small = |word: usize| self.words[word] as u32;
-        written.then(|| Answer {
-            message: self.message,
-            place: Place { bit: small(raw::WORD_BIT), phase: small(raw::WORD_PHASE), symbol: small(raw::WORD_SYMBOL) },
-            repairs: match self.words[raw::WORD_REPAIRS] {
-                0 => Repairs::None,
-                1 => Repairs::One(small(raw::WORD_FIRST)),
-                _ => Repairs::Two(small(raw::WORD_FIRST), small(raw::WORD_SECOND)),
-            },
-            slicer: if self.words[raw::WORD_SLICER] == raw::COHERENT { Slicer::Coherent } else { Slicer::Noncoherent },
-            index: self.words[raw::WORD_INDEX],
-            fraction: self.floats[raw::FLOAT_FRACTION],
-            cn0: self.floats[raw::FLOAT_CN0],
-            undecided: small(raw::WORD_UNDECIDED),
-            trial: self.words[raw::WORD_TRIAL] as u8,
-        })
+        written.then(|| answer_of(self.message, &self.words, self.floats))
+    }
+}
+
+/// What a decode wrote: the message, the whole numbers, of which a tray has one more, and the floats.
+pub(crate) fn answer_of<const N: usize>(message: [u8; N], words: &[u64], floats: [f32; FLOATS]) -> Answer<N> {
+    // All but the index are small: it is proved that the place is one of the 248 or 696, that a position lies in the message, that
+    // what is counted are bits of the message, and that a trial is at most the sixth.
+    let small = |word: usize| words[word] as u32;
+    Answer {
+        message,
+        place: Place { bit: small(raw::WORD_BIT), phase: small(raw::WORD_PHASE), symbol: small(raw::WORD_SYMBOL) },
+        repairs: match words[raw::WORD_REPAIRS] {
+            0 => Repairs::None,
+            1 => Repairs::One(small(raw::WORD_FIRST)),
+            _ => Repairs::Two(small(raw::WORD_FIRST), small(raw::WORD_SECOND)),
+        },
+        slicer: if words[raw::WORD_SLICER] == raw::COHERENT { Slicer::Coherent } else { Slicer::Noncoherent },
+        index: words[raw::WORD_INDEX],
+        fraction: floats[raw::FLOAT_FRACTION],
+        cn0: floats[raw::FLOAT_CN0],
+        undecided: small(raw::WORD_UNDECIDED),
+        trial: words[raw::WORD_TRIAL] as u8,
     }
 }
 
@@ -289,7 +294,7 @@ fn into(
 }
 
 /// Whether a message was found: number 1 says that there was none, and is no refusal.
-fn found(number: u32) -> Result<bool, Refusal> {
+pub(crate) fn found(number: u32) -> Result<bool, Refusal> {
     if number == raw::NO_MESSAGE {
         return Ok(false);
     }

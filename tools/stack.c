@@ -1,4 +1,4 @@
-// How much stack each decode takes: a thread decodes on a stack that was filled with a pattern, and the lowest byte that
+// How much stack each decode takes, and each tray: a thread decodes on a stack that was filled with a pattern, and the lowest byte that
 // changed is looked for. A thread that calls nothing is measured first, and taken off.
 #include "khlongrae.h"
 
@@ -10,14 +10,22 @@
 enum { NUMBERS = 2310, STACK = 1 << 20, PATTERN = 0xA5 };
 static float samples[NUMBERS];
 static uint8_t *stack;
-static enum call { NOTHING, LONG, SHORT, BOTH, CALLS } call;
-static const char *const NAMES[CALLS] = {"nothing", "a long decode", "a short decode", "a decode of both"};
+static enum call { NOTHING, LONG, SHORT, BOTH, TRAY, TRAY_BOTH, CALLS } call;
+static const char *const NAMES[CALLS] = {"nothing", "a long decode", "a short decode", "a decode of both", "a tray", "a tray of both"};
 static unsigned found[CALLS];
+// the last windows, at most as many as a tray holds; where the newest of them lies
+static float tray[KHLONGRAE_TRAY * NUMBERS];
+static uint64_t indices[KHLONGRAE_TRAY];
+static size_t count, newest;
 
 static void *run(void *unused) {
     static uint8_t message[14], short_message[7];
     static uint64_t words[KHLONGRAE_WORDS], short_words[KHLONGRAE_WORDS];
     static float numbers[2], short_numbers[2];
+    static uint8_t messages[21 * KHLONGRAE_TRAY];
+    static uint64_t results[2 * KHLONGRAE_RESULT_WORDS * KHLONGRAE_TRAY];
+    static float values[4 * KHLONGRAE_TRAY];
+    const size_t row = KHLONGRAE_RESULT_WORDS;
     struct khlongrae_both_answer both = {1, 1};
     (void)unused;
     switch (call) {
@@ -30,6 +38,17 @@ static void *run(void *unused) {
     case BOTH:
         both = khlongrae_decode_both(samples, NUMBERS, 2, 0.0f, 0.0f, 112, 128, message, 14, words, KHLONGRAE_WORDS, numbers, 2,
                                      short_message, 7, short_words, KHLONGRAE_WORDS, short_numbers, 2);
+        break;
+    case TRAY:
+        if (khlongrae_tray(count, tray, NUMBERS * count, 2, 0.0f, 0.0f, 112, indices, count, messages, 14 * count, results, row * count,
+                           values, 2 * count)) exit(2);
+        both.number = (uint32_t)results[row * newest + KHLONGRAE_WORD_NUMBER];
+        break;
+    case TRAY_BOTH:
+        if (khlongrae_tray_both(count, tray, NUMBERS * count, 2, 0.0f, 0.0f, 112, indices, count, messages, 21 * count, results,
+                                2 * row * count, values, 4 * count)) exit(2);
+        both.number = (uint32_t)results[2 * row * newest + KHLONGRAE_WORD_NUMBER];
+        both.short_number = (uint32_t)results[2 * row * newest + row + KHLONGRAE_WORD_NUMBER];
         break;
     default: break;
     }
@@ -84,6 +103,10 @@ int main(void) {
         } else {
             for (int k = 0; k < NUMBERS; k++) samples[k] = (float)rand() / (float)RAND_MAX - 0.5f;
         }
+        newest = (size_t)w % KHLONGRAE_TRAY;
+        memcpy(tray + NUMBERS * newest, samples, sizeof samples);
+        indices[newest] = 128;
+        if (count < KHLONGRAE_TRAY) count++;
         for (enum call c = LONG; c < CALLS; c++) {
             size_t now = used(c);
             if (now > most[c]) most[c] = now;

@@ -119,6 +119,14 @@ pub fn all(n: usize) -> Vec<Windows> {
     ]
 }
 
+/// The kinds of these names, n windows each.
+pub fn of(names: &[&str], n: usize) -> Vec<Windows> {
+    let mut windows = all(n);
+    windows.extend(searched(n).into_iter().filter(|w| w.name.contains("short")));
+    windows.retain(|w| names.contains(&w.name));
+    windows
+}
+
 /// For the long search, the short one and both in one call.
 pub fn searched(n: usize) -> Vec<Windows> {
     let made = |name, s, one: &dyn Fn(&mut Random) -> Vec<f32>| made(n, name, s, one);

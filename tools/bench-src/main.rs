@@ -13,8 +13,11 @@ use std::hint::black_box;
 use std::time::Instant;
 
 const INDEX: u64 = 128_000;
-/// How many whole numbers a decode writes.
+/// How many whole numbers a decode writes, and one result of a tray.
 const WORDS: usize = 10;
+const RESULT_WORDS: usize = 11;
+/// How many windows a tray has.
+const TRAY: usize = 64;
 
 /// Who decodes: each has its windows at hand, and answers whether window i holds a message.
 type Decoder = Box<dyn FnMut(usize) -> bool>;
@@ -74,12 +77,37 @@ macro_rules! decode_both {
     };
 }
 
+/// Many windows, their indices, and memory for as many results.
+macro_rules! decode_tray {
+    ($name:ident) => {
+        fn $name(
+            count: usize,
+            samples: *const f32,
+            samples_len: usize,
+            level: u32,
+            threshold: f32,
+            second: f32,
+            distance: u32,
+            indices: *const u64,
+            indices_len: usize,
+            messages: *mut u8,
+            messages_len: usize,
+            words: *mut u64,
+            words_len: usize,
+            floats: *mut f32,
+            floats_len: usize,
+        ) -> u32;
+    };
+}
+
 /// For any processor of this kind, as it is shipped.
 #[link(name = "khlongrae", kind = "static")]
 unsafe extern "C" {
     decode!(khlongrae_decode);
     decode!(khlongrae_decode_short);
     decode_both!(khlongrae_decode_both);
+    decode_tray!(khlongrae_tray);
+    decode_tray!(khlongrae_tray_both);
 }
 
 /// For this machine's own processor: tools/bench has put native_ before each name.
@@ -88,6 +116,8 @@ unsafe extern "C" {
     decode!(native_khlongrae_decode);
     decode!(native_khlongrae_decode_short);
     decode_both!(native_khlongrae_decode_both);
+    decode_tray!(native_khlongrae_tray);
+    decode_tray!(native_khlongrae_tray_both);
 }
 
 /// Another archive of the library, where tools/bench was given one: before_ stands before each name.
@@ -143,6 +173,27 @@ macro_rules! two {
         }) as Decoder
     }};
 }
+/// All windows in one call, of one kind of message or of both: it is made for window 0, and for each other one its result is looked at.
+macro_rules! tray {
+    ($tray:ident, $kinds:literal, $bytes:literal, $windows:expr, $s:expr) => {{
+        let (samples, s, n) = ($windows.concat(), $s, $windows.len());
+        let indices = vec![INDEX; n];
+        let (mut messages, mut floats) = (vec![0; $bytes * n], vec![0.0; 2 * $kinds * n]);
+        let mut words = vec![0; $kinds * RESULT_WORDS * n];
+        Box::new(move |i: usize| {
+            if i == 0 {
+                let x: &Vec<f32> = black_box(&samples);
+                let (m, w, f) = (messages.as_mut_ptr(), words.as_mut_ptr(), floats.as_mut_ptr());
+                let (mn, wn, fn_) = (messages.len(), words.len(), floats.len());
+                let (x, len, j) = (x.as_ptr(), x.len(), indices.as_ptr());
+                let number = unsafe { $tray(n, x, len, s.level, s.threshold, s.second, s.distance, j, n, m, mn, w, wn, f, fn_) };
+                assert_eq!(number, 0, "a tray is refused");
+            }
+            let result = &words[$kinds * RESULT_WORDS * i..][..$kinds * RESULT_WORDS];
+            result.chunks(RESULT_WORDS).any(|part| part[WORDS] == 0)
+        }) as Decoder
+    }};
+}
 /// The Rust keeps a window in its receiver: one receiver for each.
 macro_rules! rust {
     ($oracle:ident, $windows:expr, $s:expr) => {{
@@ -163,6 +214,11 @@ macro_rules! rust {
 const NAMES: [&str; 5] = ["khlongrae", "khlongrae-native", "rust", "rust-native", "rust-algebraic"];
 /// The searches: as shipped, then for this machine's own processor.
 const SEARCHES: [&str; 6] = ["khlongrae", "short", "both", "khlongrae-native", "short-native", "both-native"];
+/// Single calls and a tray: as shipped, then for this machine's own processor; and the same of both kinds of message.
+const TRAYS: [&str; 4] = ["khlongrae", "tray", "khlongrae-native", "tray-native"];
+const TRAYS_BOTH: [&str; 4] = ["both", "tray-both", "both-native", "tray-both-native"];
+/// The windows for them; those of both kinds have a short message too.
+const TRAY_KINDS: [&str; 5] = ["noise", "message", "one-damaged", "two-damaged", "short"];
 
 fn decoder(who: &str, windows: &[Vec<f32>], s: Settings) -> Decoder {
     match who {
@@ -172,6 +228,10 @@ fn decoder(who: &str, windows: &[Vec<f32>], s: Settings) -> Decoder {
         "short-native" => one!(native_khlongrae_decode_short, 7, windows, s),
         "both" => two!(khlongrae_decode_both, windows, s),
         "both-native" => two!(native_khlongrae_decode_both, windows, s),
+        "tray" => tray!(khlongrae_tray, 1, 14, windows, s),
+        "tray-native" => tray!(native_khlongrae_tray, 1, 14, windows, s),
+        "tray-both" => tray!(khlongrae_tray_both, 2, 21, windows, s),
+        "tray-both-native" => tray!(native_khlongrae_tray_both, 2, 21, windows, s),
         #[cfg(before)]
         "before" => one!(before_khlongrae_decode, 14, windows, s, words_by(unsafe { before_khlongrae_version() })),
         "rust" => rust!(oracle_a, windows, s),
@@ -210,9 +270,11 @@ fn table(names: &[&str], kinds: Vec<Windows>, rounds: usize, micros: f64, agrees
             let found: Vec<Vec<bool>> = decoders.iter_mut().map(|d| (0..samples.len()).map(|i| d(i)).collect()).collect();
             assert!(agrees(&found), "{name}: the decoders find messages in {found:?}");
             let mut times = vec![vec![]; names.len()];
-            for _ in 0..rounds {
-                for (d, t) in decoders.iter_mut().zip(&mut times) {
-                    t.push(time(d, samples.len(), micros));
+            for round in 0..rounds {
+                // Each round begins with another one: where the machine is shared, others may take it away at the same turn of every round.
+                for turn in 0..names.len() {
+                    let k = (round + turn) % names.len();
+                    times[k].push(time(&mut decoders[k], samples.len(), micros));
                 }
             }
             let medians: Vec<String> = times.into_iter().map(|t| format!("{:.4}", median(t))).collect();
@@ -264,7 +326,7 @@ fn repeat(name: &str, who: &str, n: usize) {
 
 /// A wrong call: one line, status 2.
 fn stop() -> ! {
-    eprintln!("bench: table, searches or before ROUNDS MICROS, line ROUNDS or repeat KIND WHO N, each number from 1");
+    eprintln!("bench: table, searches, trays, trays-both or before ROUNDS MICROS, line ROUNDS or repeat KIND WHO N, each number from 1");
     std::process::exit(2)
 }
 
@@ -274,6 +336,10 @@ fn main() {
     match words.iter().map(String::as_str).collect::<Vec<_>>()[..] {
         ["table", rounds, micros] => table(&NAMES, kinds::all(8), number(rounds), number(micros) as f64, all_but_last),
         ["searches", rounds, micros] => table(&SEARCHES, kinds::searched(8), number(rounds), number(micros) as f64, pairs),
+        ["trays", rounds, micros] => table(&TRAYS, kinds::of(&TRAY_KINDS[..4], TRAY), number(rounds), number(micros) as f64, same),
+        ["trays-both", rounds, micros] => {
+            table(&TRAYS_BOTH, kinds::of(&TRAY_KINDS, TRAY), number(rounds), number(micros) as f64, same)
+        }
         ["before", rounds, micros] => table(&["before", "khlongrae"], kinds::all(8), number(rounds), number(micros) as f64, same),
         ["line", rounds] => line(number(rounds)),
         ["repeat", kind, who, n] => repeat(kind, who, number(n)),

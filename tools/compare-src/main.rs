@@ -4,6 +4,7 @@ mod generate;
 mod proved;
 mod recipe;
 mod rules;
+mod trays;
 
 use counts::Counts;
 use proved::Lent;
@@ -13,6 +14,7 @@ use std::fmt::Debug;
 use std::fs::File;
 use std::io::Write;
 use std::time::Instant;
+use trays::Trays;
 
 /// The four variants of the Rust, each with its answers in the same form.
 struct Oracles {
@@ -283,11 +285,6 @@ fn address(c: &mut Counts, f: &mut Faults, number: u64, message: &[u8; 14]) {
     c.met(ADDRESS_NAMES[kind as usize], true);
 }
 
-/// Lent memory that no call writes by chance.
-fn marked([message, words, floats]: [usize; 3]) -> Lent {
-    Lent { message: vec![0xA5; message], words: vec![0xA5A5; words], floats: vec![1.5; floats] }
-}
-
 /// Calls that are refused: the number, and lent memory as it was.
 fn refusals(c: &mut Counts, f: &mut Faults, r: &mut Random, t: &Both, number: u64, samples: &[f32], s: Settings, index: u64) {
     let bad = [f32::NAN, f32::INFINITY, f32::NEG_INFINITY];
@@ -306,22 +303,22 @@ fn refusals(c: &mut Counts, f: &mut Faults, r: &mut Random, t: &Both, number: u6
     let good = [sizes[0] == Lent::LONG, sizes[1] == Lent::SHORT];
     let found = [&t.long, &t.short].map(|t| rules::decode(t, &mut Counts::default(), samples, s, index).number);
     let ruled = |k: usize, good: bool| if good || found[k] == 2 { found[k] } else { 3 };
-    let mut out = sizes.map(marked);
+    let mut out = sizes.map(Lent::marked);
     let mut got = [0; 2];
     got[0] = proved::decode_into(samples, s, index, &mut out[0]);
     got[1] = proved::decode_short_into(samples, s, index, &mut out[1]);
     f.same("refusal", number, got, [0, 1].map(|k| ruled(k, good[k])));
     // The call for both is refused where either would be.
-    let mut pair = sizes.map(marked);
+    let mut pair = sizes.map(Lent::marked);
     let [long, short] = &mut pair;
     let numbers = proved::decode_both_into(samples, s, index, long, short);
     f.same("refusal of both", number, numbers, [0, 1].map(|k| ruled(k, good[0] && good[1])));
     for k in 0..2 {
         if got[k] != 0 {
-            f.same("memory of a refused call", number, &out[k], &marked(sizes[k]));
+            f.same("memory of a refused call", number, &out[k], &Lent::marked(sizes[k]));
         }
         if numbers[k] != 0 {
-            f.same("memory of a refused call for both", number, &pair[k], &marked(sizes[k]));
+            f.same("memory of a refused call for both", number, &pair[k], &Lent::marked(sizes[k]));
         }
         if (2..=6).contains(&got[k]) {
             c.met(&format!("{}refused {}", [t.long.kind, t.short.kind][k].under, got[k]), true);
@@ -458,10 +455,12 @@ fn main() {
         ("", ADDRESS_NAMES),
         ("", PAIR_NAMES),
         ("", REPLY_NAMES),
+        ("", trays::NAMES),
     ]);
     let causes = &mut Counts::of(&[("", CAUSES)]);
     let f = &mut Faults::default();
     let mut recorded = vec![];
+    let mut trays = Trays::new(g.seed);
     let mut o = Oracles {
         a: oracle_a::Oracle::default(),
         b: oracle_b::Oracle::default(),
@@ -578,6 +577,7 @@ fn main() {
                 address(c, f, number, &found.message);
             }
         }
+        trays.take(c, f, number, samples, s, index);
         if told.elapsed().as_secs() >= 10 {
             told = Instant::now();
             let (done, total) = (number + 1 - g.first, g.windows);
@@ -591,6 +591,8 @@ fn main() {
             );
         }
     }
+    trays.call(c, f);
+    f.same("windows that went through a tray", 0, c.0["tray: windows"], g.windows);
     let seconds = began.elapsed().as_secs_f64();
     println!(
         "compare: seed {}, windows {} to {}, {seconds:.0} s, {:.0} a second",

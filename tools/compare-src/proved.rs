@@ -70,8 +70,13 @@ impl Lent {
     pub fn zeros([message, words, floats]: [usize; 3]) -> Lent {
         Lent { message: vec![0; message], words: vec![0; words], floats: vec![0.0; floats] }
     }
-    /// Where the number is not 0 the memory still holds the zeros that it was lent with.
-    fn answer(&self, number: u32) -> Answer {
+    /// Memory that no call writes by chance.
+    pub fn marked([message, words, floats]: [usize; 3]) -> Lent {
+        Lent { message: vec![0xA5; message], words: vec![0xA5A5; words], floats: vec![1.5; floats] }
+    }
+    /// Where the number is not 0 the memory still holds the zeros that it was lent with, and that of a tray's result the zeros that were
+    /// written.
+    pub fn answer(&self, number: u32) -> Answer {
         let [index, bit, phase, symbol, count, first, second, slicer, undecided, trial] = self.words[..].try_into().unwrap();
         Answer {
             number,
@@ -131,6 +136,30 @@ pub fn decode_both_into(samples: &[f32], s: Settings, index: u64, long: &mut Len
         )
     };
     [numbers.number, numbers.short_number]
+}
+
+/// The number of a tray, of long messages (0) or of both kinds (1).
+pub fn tray_into(kind: usize, count: usize, samples: &[f32], s: Settings, indices: &[u64], out: &mut Lent) -> u32 {
+    let call = [raw::khlongrae_tray, raw::khlongrae_tray_both][kind];
+    unsafe {
+        call(
+            count,
+            samples.as_ptr(),
+            samples.len(),
+            s.level,
+            s.threshold,
+            s.second,
+            s.distance,
+            indices.as_ptr(),
+            indices.len(),
+            out.message.as_mut_ptr(),
+            out.message.len(),
+            out.words.as_mut_ptr(),
+            out.words.len(),
+            out.floats.as_mut_ptr(),
+            out.floats.len(),
+        )
+    }
 }
 
 pub fn decode(samples: &[f32], s: Settings, index: u64) -> Answer {

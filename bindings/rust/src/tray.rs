@@ -7,8 +7,8 @@ const BOTH_BYTES: usize = MESSAGE + SHORT_MESSAGE;
 const BOTH_WORDS: usize = 2 * RESULT_WORDS;
 const BOTH_FLOATS: usize = 2 * FLOATS;
 
-/// The memory for a tray: up to [`TRAY`] windows in one call, with one setting. It can be used again and again, and has some 26 KiB, so that
-/// it may be better kept in a `static` or in a long-lived value than made for each call.
+/// The memory for a tray: up to [`TRAY`] windows in one call, with one setting. It can be used again and again, and has some 25 KiB, so
+/// that it may be better kept in a `static` or in a long-lived value than made for each call.
 ///
 /// The windows lie one behind another in one slice, [`WINDOW`](crate::WINDOW) numbers each, and each has its index. The answers stand until
 /// the next call.

@@ -15,7 +15,8 @@ use Rattle.search.specs.declared.BothAnswers.{BothAnswers}
 use Rattle.search.specs.Kinds.{Kind, long, short}
 use Rattle.search.specs.Answers.{orNumber, decodeOf}
 use Rattle.search.specs.Short.{shortAnswer, ofShort}
-use Rattle.rows.specs.Rows.{Lent}
+use Rattle.rows.specs.Rows.{Lent, fieldsInto}
+use Rattle.rows.proofs.Laid.{fields-done}
 use Rattle.khlongrae.specs.Flat.{Written, holding, filled, written, writtenOr, lentNumber, decodeInto, beside, bothInto}
 
 -- ---- number 0 says that the lengths are right
@@ -35,14 +36,14 @@ room bytes samples m w x e z = room-tested bytes m w x (eqb (length samples) 231
 
 -- ---- what is filled
 
-module _ (n : ℕ) (new old : Lent) where
-  pub filled-not : (n ≡ 0 → ⊥) → holding n old ≡ filled n new old
-  unfolding filled
-  filled-not h = rw (ne-eqb _ _ h)
+pub filled-not : (n : ℕ) (new old : Lent) → (n ≡ 0 → ⊥) → holding n old ≡ filled n new old
+unfolding filled
+filled-not n new old h = rw (ne-eqb _ _ h)
 
-  pub filled-all : {m w : List ℕ} {x : List Float} → n ≡ 0 → m ≡ new .0 → w ≡ new .1 → x ≡ new .2 → (0, m, w, x) ≡ filled n new old
-  unfolding filled
-  filled-all h e f g = rw (eq-eqb _ _ h, h, e, f, g)
+pub filled-all : (n : ℕ) (found row : List ℕ) (pair : List Float) (m w : List ℕ) (x : List Float) {t : Written} → n ≡ 0
+    → (length m ≡ length found) × (length w ≡ 10) × (length x ≡ 2) → t ≡ fieldsInto found row pair (m, w, x) → t ≡ filled n (found, row, pair) (m, w, x)
+unfolding filled
+filled-all n found row pair m w x h l e = e ∙ fields-done found row pair m w x (l .0) (l .1) (l .2) ∙ rw (eq-eqb _ _ h, h)
 
 -- ---- one kind
 

@@ -1,7 +1,7 @@
 -- What stands in lent memory once an answer is laid out.
 --     numbered                   ten numbers, and one behind them
---     fields-put, result-put     the lengths are right and the rows are there
---     result-done                where the lengths are right, what put_result answers and writes
+--     fields-done, result-done   what is answered and written where the lengths are right
+--     fields-put, result-put     the same, of rows that were written one by one
 -- Assumes nothing.
 use mathlib.Core.Path.{_≡_, sym, ap, _∙_}
 use mathlib.Core.Bool.{true}
@@ -25,11 +25,15 @@ numbered from to last e l p =
     let none : length to ≤ 11 = omega arith in
     rw (p, drop-cons to 10 0 one, drop-of-length-le to none) (set-at from (getD to 10 0) [] last 10 e)
 
+pub fields-done : (found row : List ℕ) (pair : List Float) (m w : List ℕ) (x : List Float) → length m ≡ length found → length w ≡ 10 → length x ≡ 2
+    → fieldsInto found row pair (m, w, x) ≡ (0, found, row, pair)
+unfolding fieldsInto
+fields-done found row pair m w x a b c = rw (eq-eqb _ _ a, eq-eqb _ _ b, eq-eqb _ _ c)
+
 module _ (m w : List ℕ) (x : List Float) {m' w' : List ℕ} {x' : List Float} where
   pub fields-put : (found row : List ℕ) (pair : List Float) → length m ≡ length found → length w ≡ 10 → length x ≡ 2
       → m' ≡ found → w' ≡ row → x' ≡ pair → (0, m', w', x') ≡ fieldsInto found row pair (m, w, x)
-  unfolding fieldsInto
-  fields-put found row pair a b c e f g = rw (eq-eqb _ _ a, eq-eqb _ _ b, eq-eqb _ _ c, e, f, g)
+  fields-put found row pair a b c e f g = rw (e, f, g) (sym (fields-done found row pair m w x a b c))
 
   pub result-put : (a : Answer) {row : List ℕ} → messageLength (length m) ≡ true → length w ≡ 11 → length x ≡ 2
       → row ≡ wordsOf a → m' ≡ take (length m) (a .message) → w' ≡ row ++ (a .number ∷ []) → x' ≡ numbersOf a → (0, m', w', x') ≡ resultInto a (m, w, x)

@@ -1,5 +1,5 @@
 -- The results of a tray, as the code puts them together.
---     part-is, part-size, rest-size, placed, joined   parts of lent memory, and what is written there
+--     part-size, rest-size, placed, joined   parts of lent memory, and what is written there
 --     long-size, long-rows, both-rows      what is written for a window is its row
 --     row-bytes, row-words, row-floats     how long it is
 --     sizes-long, sizes-both               in numbers
@@ -29,9 +29,6 @@ use Rattle.receiver.specs.Inner.{cutAnswer}
 
 -- ---- a part of lent memory
 
-pub part-is : {A : Type 0} (a e w : ℕ) (xs : List A) → e ≡ a + w → take (e - a) (drop a xs) ≡ take w (drop a xs)
-part-is a e w xs h = let d : e - a ≡ w = omega arith in rw d
-
 pub placed : {A : Type 0} (a e w : ℕ) (xs : List A) {ys row : List A} → e ≡ a + w → ys ≡ row
     → take a xs ++ (ys ++ drop (e - a) (drop a xs)) ≡ take a xs ++ (row ++ drop w (drop a xs))
 placed a e w xs h r = let d : e - a ≡ w = omega arith in rw (d, r)
@@ -52,9 +49,13 @@ rest-size a b xs ys e l =
     let z : length (ys ++ drop a xs) ≡ a + b = simp (length-append, length-drop, e) (omega arith) in
     part-size a (length (ys ++ drop a xs)) b (ys ++ drop a xs) z (omega (arith, z))
 
-pub window-is : (samples : List Float) (k : ℕ) → take (2310 * k + 2310 - 2310 * k) (drop (2310 * k) samples) ≡ windowAt samples k
+pub window-is : (samples : List Float) (k : ℕ)
+    → take (2310 * (k + 1) - (2310 * (k + 1) - 2310)) (drop (2310 * (k + 1) - 2310) samples) ≡ windowAt samples k
 unfolding windowAt
-window-is samples k = part-is (2310 * k) (2310 * k + 2310) 2310 samples refl
+window-is samples k =
+    let a : 2310 * (k + 1) - 2310 ≡ 2310 * k = omega arith in
+    let b : 2310 * (k + 1) - 2310 * k ≡ 2310 = omega arith in
+    rw (a, b)
 
 -- ---- the row of a window
 
@@ -62,42 +63,36 @@ pub long-size : (window : List Float) (s : Settings) (index : ℕ) {a : Answer} 
 unfolding long
 long-size window s index e = ap (λ (a : Answer). length (a .message)) e ∙ decode-size long s window index
 
-module _ (samples : List Float) (s : Settings) (indices : List ℕ) (k : ℕ) {window : List Float} (e : window ≡ windowAt samples k) where
+module _ (samples : List Float) (s : Settings) (indices : List ℕ) (k : ℕ) where
   abbrev index : ℕ
   index = getD indices k 0
 
-  whole : (a : Answer) → a ≡ decodeOf long window s index → take 14 (a .message) ≡ decodeOf long (windowAt samples k) s index .message
-  unfolding long
-  whole a h =
-      let q : a ≡ decodeOf long (windowAt samples k) s index = h ∙ rw e in
-      rw q (take-all 14 _ (omega (arith, decode-size long s (windowAt samples k) index)))
+  whole : (a : Answer) → a ≡ decodeOf long (windowAt samples k) s index → take 14 (a .message) ≡ decodeOf long (windowAt samples k) s index .message
+  whole a q = let l = long-size (windowAt samples k) s index q in take-all 14 (a .message) (omega arith) ∙ ap messageOf q
 
-  pub long-rows : {a : Answer} {m w : List ℕ} {x : List Float} → a ≡ decodeOf long window s index
+  pub long-rows : {a : Answer} {m w : List ℕ} {x : List Float} → a ≡ decodeOf long (windowAt samples k) s index
       → m ≡ take 14 (a .message) → w ≡ resultOf a → x ≡ numbersOf a
       → (m ≡ trayRow messageOf (kindsOf false) samples s indices k) × (w ≡ trayRow resultOf (kindsOf false) samples s indices k)
       × (x ≡ trayRow numbersOf (kindsOf false) samples s indices k)
   unfolding trayRow kindsOf answersOf fieldsOf
-  long-rows {a} h em ew ex =
-      let q : a ≡ decodeOf long (windowAt samples k) s index = h ∙ rw e in (
-        em ∙ whole a h ∙ sym (append-nil _),
-        ew ∙ ap resultOf q ∙ sym (append-nil _),
-        ex ∙ ap numbersOf q ∙ sym (append-nil _),
-      )
+  long-rows {a} q em ew ex = (
+    em ∙ whole a q ∙ sym (append-nil _),
+    ew ∙ ap resultOf q ∙ sym (append-nil _),
+    ex ∙ ap numbersOf q ∙ sym (append-nil _),
+  )
 
-  pub both-rows : (l t : Answer) {m w : List ℕ} {x : List Float} → l ≡ decodeOf long window s index → cutAnswer t ≡ decodeOf short window s index
-      → m ≡ take 14 (l .message) ++ take 7 (t .message) → w ≡ resultOf l ++ resultOf t → x ≡ numbersOf l ++ numbersOf t
+  pub both-rows : (l t : Answer) {m w : List ℕ} {x : List Float} → l ≡ decodeOf long (windowAt samples k) s index
+      → cutAnswer t ≡ decodeOf short (windowAt samples k) s index → m ≡ take 14 (l .message) ++ take 7 (t .message)
+      → w ≡ resultOf l ++ resultOf t → x ≡ numbersOf l ++ numbersOf t
       → (m ≡ trayRow messageOf (kindsOf true) samples s indices k) × (w ≡ trayRow resultOf (kindsOf true) samples s indices k)
       × (x ≡ trayRow numbersOf (kindsOf true) samples s indices k)
   unfolding trayRow kindsOf answersOf fieldsOf
-  both-rows l t h g em ew ex =
-      let q : l ≡ decodeOf long (windowAt samples k) s index = h ∙ rw e in
-      let r : cutAnswer t ≡ decodeOf short (windowAt samples k) s index = g ∙ rw e in (
-        em ∙ ap₂ (λ (a b : List ℕ). a ++ b) (whole l h) (ap messageOf r ∙ sym (append-nil _)),
-        ew ∙ ap₂ (λ (a b : List ℕ). a ++ b) (ap resultOf q) (ap resultOf r ∙ sym (append-nil _)),
-        ex ∙ ap₂ (λ (a b : List Float). a ++ b) (ap numbersOf q) (ap numbersOf r ∙ sym (append-nil _)),
-      )
+  both-rows l t q r em ew ex = (
+    em ∙ ap₂ (λ (a b : List ℕ). a ++ b) (whole l q) (ap messageOf r ∙ sym (append-nil _)),
+    ew ∙ ap₂ (λ (a b : List ℕ). a ++ b) (ap resultOf q) (ap resultOf r ∙ sym (append-nil _)),
+    ex ∙ ap₂ (λ (a b : List Float). a ++ b) (ap numbersOf q) (ap numbersOf r ∙ sym (append-nil _)),
+  )
 
-module _ (samples : List Float) (s : Settings) (indices : List ℕ) (k : ℕ) where
   pub row-bytes : (both : Bool) → length (trayRow messageOf (kindsOf both) samples s indices k) ≡ bytesIn (kindsOf both)
   unfolding trayRow
   row-bytes both = bytes-size (windowAt samples k) s (getD indices k 0) (kindsOf both)
@@ -200,11 +195,11 @@ module _ (both : Bool) (n : ℕ) (m w : List ℕ) (x : List Float) where
     pub tray-done : {r : ℕ} {m' w' : List ℕ} {x' : List Float} → r ≡ number → r ≡ 0
         → (m' ≡ rowsOf (trayRow messageOf (kindsOf both) samples s indices) n) × (w' ≡ rowsOf (trayRow resultOf (kindsOf both) samples s indices) n)
         × (x' ≡ rowsOf (trayRow numbersOf (kindsOf both) samples s indices) n)
-        → (0, m', w', x') ≡ trayInto (kindsOf both) n samples s indices (m, w, x)
+        → (r, m', w', x') ≡ trayInto (kindsOf both) n samples s indices (m, w, x)
     unfolding trayInto
-    tray-done e z q = rw (sym e, eq-eqb _ _ z, q .0, q .1, q .2)
+    tray-done e z q = rw (sym e, eq-eqb _ _ z, q .0, q .1, q .2, z)
 
-    pub tray-none : {r : ℕ} → r ≡ number → r ≡ 0 → n ≡ 0 → (0, m, w, x) ≡ trayInto (kindsOf both) n samples s indices (m, w, x)
+    pub tray-none : {r : ℕ} → r ≡ number → r ≡ 0 → n ≡ 0 → (r, m, w, x) ≡ trayInto (kindsOf both) n samples s indices (m, w, x)
     unfolding rowsOf
     tray-none e z h =
         let f = fitting e z in

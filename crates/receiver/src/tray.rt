@@ -4,18 +4,21 @@ use crate::answer::both_in;
 use crate::answer::decode_in;
 use choice::settings::check_settings;
 use rows::put_result;
+use search::Answer;
 use search::Settings;
 use sieve::hash::write_hash;
 ghost use mathlib.Core.Path.{_≡_};
 ghost use mathlib.Core.Bool.{true, false, _&&_};
 ghost use mathlib.Core.List.{_++_};
-ghost use Prim.Native.Nat.{_*_, _<_, _≤_};
+ghost use Prim.Native.Nat.{_+_, _*_, _<_, _≤_};
 ghost use lib.Dec.{eqb};
-ghost use lib.ListN.{length, take};
-ghost use Rattle.search.specs.Answers.{settingsNumber};
+ghost use lib.ListN.{length, getD, take};
+ghost use Rattle.search.specs.Kinds.{long, short};
+ghost use Rattle.search.specs.Answers.{decodeOf};
 ghost use Rattle.sieve.specs.Hash.{Hashed};
+ghost use Rattle.receiver.specs.Inner.{cutAnswer};
 ghost use Rattle.rows.specs.Rows.{resultOf, numbersOf, withRow, rowsOf};
-ghost use Rattle.rows.specs.Tray.{kindsOf, messageOf, trayRow, bytesIn, wordsIn, floatsIn, roomIn, trayNumber, trayInto};
+ghost use Rattle.rows.specs.Tray.{kindsOf, windowAt, messageOf, trayRow, bytesIn, wordsIn, floatsIn, roomIn, trayNumber, trayInto};
 
 // The outputs have these lengths.
 fn have_lengths(
@@ -97,6 +100,60 @@ fn put_both(a: BothIn, message: &mut [u8], words: &mut [u64], floats: &mut [f32]
     );
 }
 
+// Window k of a tray.
+fn window_at(samples: &[f32], k: usize) -> &[f32]
+    requires { ⌜ (k < 64) × (2310 * (k + 1) ≤ length (now samples)) ⌝ }
+    ensures { λ r. ⌜ now r ≡ windowAt (now (samples .entry)) k ⌝ }
+{
+    let to = 2310 * (k + 1);
+    &samples[to - 2310..to]
+}
+
+// What is answered for it, with its index.
+fn decode_at(
+    k: usize,
+    samples: &[f32],
+    sums: &mut [f32],
+    displacements: &[u8],
+    owners: &[u16],
+    s: Settings,
+    indices: &[u64],
+) -> Answer
+    requires { ⌜ (k < 64) × (2310 * (k + 1) ≤ length (now samples)) × (length (now sums) ≡ 2304) × Hashed (now displacements) (now owners) × (k < length (now indices)) ⌝ }
+    ensures { λ r. ⌜ r ≡ decodeOf long (windowAt (now (samples .entry)) k) s (getD (now (indices .entry)) k 0) ⌝ }
+{
+    decode_in(
+        window_at(samples, k),
+        sums,
+        displacements,
+        owners,
+        s,
+        indices[k],
+    )
+}
+
+fn both_at(
+    k: usize,
+    samples: &[f32],
+    sums: &mut [f32],
+    displacements: &[u8],
+    owners: &[u16],
+    s: Settings,
+    indices: &[u64],
+) -> BothIn
+    requires { ⌜ (k < 64) × (2310 * (k + 1) ≤ length (now samples)) × (length (now sums) ≡ 2304) × Hashed (now displacements) (now owners) × (k < length (now indices)) ⌝ }
+    ensures { λ r. ⌜ (r .long ≡ decodeOf long (windowAt (now (samples .entry)) k) s (getD (now (indices .entry)) k 0)) × (cutAnswer (r .short) ≡ decodeOf short (windowAt (now (samples .entry)) k) s (getD (now (indices .entry)) k 0)) ⌝ }
+{
+    both_in(
+        window_at(samples, k),
+        sums,
+        displacements,
+        owners,
+        s,
+        indices[k],
+    )
+}
+
 // Result k of a tray for long messages.
 fn step_long(
     k: usize,
@@ -114,14 +171,7 @@ fn step_long(
     requires { ⌜ (k < n) × (n ≤ 64) × (length (now samples) ≡ 2310 * n) × (length (now sums) ≡ 2304) × Hashed (now displacements) (now owners) × (length (now indices) ≡ n) × (length (now messages) ≡ 14 * n) × (length (now words) ≡ 11 * n) × (length (now floats) ≡ 2 * n) ⌝ }
     ensures { λ _. ⌜ (now (messages .exit) ≡ withRow 14 k (trayRow messageOf (kindsOf false) (now (samples .entry)) s (now (indices .entry)) k) (now (messages .entry))) × (now (words .exit) ≡ withRow 11 k (trayRow resultOf (kindsOf false) (now (samples .entry)) s (now (indices .entry)) k) (now (words .entry))) × (now (floats .exit) ≡ withRow 2 k (trayRow numbersOf (kindsOf false) (now (samples .entry)) s (now (indices .entry)) k) (now (floats .entry))) ⌝ }
 {
-    let a = decode_in(
-        &samples[2310 * k..2310 * k + 2310],
-        sums,
-        displacements,
-        owners,
-        s,
-        indices[k],
-    );
+    let a = decode_at(k, samples, sums, displacements, owners, s, indices);
     put_result(
         a,
         &mut messages[14 * k..14 * k + 14],
@@ -147,14 +197,7 @@ fn step_both(
     requires { ⌜ (k < n) × (n ≤ 64) × (length (now samples) ≡ 2310 * n) × (length (now sums) ≡ 2304) × Hashed (now displacements) (now owners) × (length (now indices) ≡ n) × (length (now messages) ≡ 21 * n) × (length (now words) ≡ 22 * n) × (length (now floats) ≡ 4 * n) ⌝ }
     ensures { λ _. ⌜ (now (messages .exit) ≡ withRow 21 k (trayRow messageOf (kindsOf true) (now (samples .entry)) s (now (indices .entry)) k) (now (messages .entry))) × (now (words .exit) ≡ withRow 22 k (trayRow resultOf (kindsOf true) (now (samples .entry)) s (now (indices .entry)) k) (now (words .entry))) × (now (floats .exit) ≡ withRow 4 k (trayRow numbersOf (kindsOf true) (now (samples .entry)) s (now (indices .entry)) k) (now (floats .entry))) ⌝ }
 {
-    let a = both_in(
-        &samples[2310 * k..2310 * k + 2310],
-        sums,
-        displacements,
-        owners,
-        s,
-        indices[k],
-    );
+    let a = both_at(k, samples, sums, displacements, owners, s, indices);
     put_both(
         a,
         &mut messages[21 * k..21 * k + 21],
@@ -298,10 +341,10 @@ fn decode_windows(
         return number;
     }
     if n == 0 {
-        return 0;
+        return number;
     }
     fill_lent(both, n, samples, s, indices, messages, words, floats);
-    0
+    number
 }
 
 // The messages of n windows, one result behind another: what `decode` answers for each window, its index and the settings. Refused, with

@@ -2,40 +2,13 @@
 use mathlib.Core.Path.{refl}
 use Prim.Native.Nat.{_*_}
 use native.Mathlib.Omega.{arith}
-use Rattle.receiver.proofs.Traying.{placed, part-size, window-is, long-size, both-rows}
+use Rattle.receiver.proofs.Traying.{placed, part-size, long-size, both-rows}
 use borrow.Author.Needs.{needs}
 use Rattle.receiver.proofs.tray.step_both.Statement.{statement}
 use Rattle.receiver.proofs.tray.step_both.Tie as tie
 
-mul-both-in : tie.Need-mul-both-in
-mul-both-in c = search needs
-
-mul-both-in-2 : tie.Need-mul-both-in-2
-mul-both-in-2 c = search needs
-
-add-both-in : tie.Need-add-both-in
-add-both-in c = search needs
-
-mul-both-in-3 : tie.Need-mul-both-in-3
-mul-both-in-3 c = search needs
-
-sub-both-in : tie.Need-sub-both-in
-sub-both-in c = search needs
-
-part-both-in-start : tie.Need-part-both-in-start
-part-both-in-start c = search needs
-
-part-both-in-end : tie.Need-part-both-in-end
-part-both-in-end c = search needs
-
-mul-both-in-4 : tie.Need-mul-both-in-4
-mul-both-in-4 c = search needs
-
-shared-slice-read-both-in : tie.Need-shared-slice-read-both-in
-shared-slice-read-both-in c = search needs
-
-both-in-requires : tie.Need-both-in-requires
-both-in-requires c κs = search needs
+both-at-requires : tie.Need-both-at-requires
+both-at-requires c κs = search needs
 
 mul-put-both : tie.Need-mul-put-both
 mul-put-both c = search needs
@@ -99,13 +72,13 @@ part-put-both-end-3 c = search needs
 
 put-both-requires : tie.Need-put-both-requires
 put-both-requires c κs =
-    let s = c .before .before .before .before .before .before .before .before .before .before .before .before .before .before .before .before .before in
+    let s = c .before .before .before .before .before .before .before .before .before .before .before .before .before .before .before in
     let a = s .args in
     let p = s .pre in (
       part-size (21 * a .k) _ 21 _ refl (omega (arith, p .0, p .6)),
       part-size (22 * a .k) _ 22 _ refl (omega (arith, p .0, p .7)),
       part-size (4 * a .k) _ 4 _ refl (omega (arith, p .0, p .8)),
-      long-size _ _ _ (c .before .before .before .before .before .both-in .ensures .0),
+      long-size _ _ _ (c .before .before .before .before .before .both-at .ensures .0),
     )
 
 same-length : tie.Need-same-length
@@ -122,27 +95,18 @@ same-length-4 c = search needs
 
 returns : tie.Need-returns
 returns c =
-    let s = c .before .before .before .before .before .before .before .before .before .before .before .before .before .before .before .before .before .before .before .before .before .before .before .before in
+    let s = c .before .before .before .before .before .before .before .before .before .before .before .before .before .before .before .before .before .before .before .before .before .before in
     let a = s .args in
     let e = c .before .before .before .before .before .before .put-both .ensures in
-    let b = c .before .before .before .before .before .before .before .before .before .before .before .before .both-in in
-    let rows = both-rows (a .samples .now) (a .s) (a .indices .now) (a .k) (window-is (a .samples .now) (a .k)) (b .result .long) (b .result .short) (b .ensures .0) (b .ensures .1) (e .0) (e .1) (e .2) in
+    let b = c .before .before .before .before .before .before .before .before .before .before .before .before .both-at in
+    let rows = both-rows (a .samples .now) (a .s) (a .indices .now) (a .k) (b .result .long) (b .result .short) (b .ensures .0) (b .ensures .1) (e .0) (e .1) (e .2) in
     (placed (21 * a .k) _ 21 _ refl (rows .0), placed (22 * a .k) _ 22 _ refl (rows .1), placed (4 * a .k) _ 4 _ refl (rows .2))
 
 pub step-both-spec : {M : Type 1} → statement M
 step-both-spec =
     tie.close
     (tie.spec
-    mul-both-in
-    mul-both-in-2
-    add-both-in
-    mul-both-in-3
-    sub-both-in
-    part-both-in-start
-    part-both-in-end
-    mul-both-in-4
-    shared-slice-read-both-in
-    both-in-requires
+    both-at-requires
     mul-put-both
     mul-put-both-2
     add-put-both

@@ -4,40 +4,13 @@ use mathlib.Core.Logic.{inr}
 use Prim.Native.Nat.{_*_}
 use native.Mathlib.Omega.{arith}
 use Rattle.rows.proofs.Laid.{result-done}
-use Rattle.receiver.proofs.Traying.{placed, part-size, window-is, long-rows}
+use Rattle.receiver.proofs.Traying.{placed, part-size, long-rows}
 use borrow.Author.Needs.{needs}
 use Rattle.receiver.proofs.tray.step_long.Statement.{statement}
 use Rattle.receiver.proofs.tray.step_long.Tie as tie
 
-mul-decode-in : tie.Need-mul-decode-in
-mul-decode-in c = search needs
-
-mul-decode-in-2 : tie.Need-mul-decode-in-2
-mul-decode-in-2 c = search needs
-
-add-decode-in : tie.Need-add-decode-in
-add-decode-in c = search needs
-
-mul-decode-in-3 : tie.Need-mul-decode-in-3
-mul-decode-in-3 c = search needs
-
-sub-decode-in : tie.Need-sub-decode-in
-sub-decode-in c = search needs
-
-part-decode-in-start : tie.Need-part-decode-in-start
-part-decode-in-start c = search needs
-
-part-decode-in-end : tie.Need-part-decode-in-end
-part-decode-in-end c = search needs
-
-mul-decode-in-4 : tie.Need-mul-decode-in-4
-mul-decode-in-4 c = search needs
-
-shared-slice-read-decode-in : tie.Need-shared-slice-read-decode-in
-shared-slice-read-decode-in c = search needs
-
-decode-in-requires : tie.Need-decode-in-requires
-decode-in-requires c κs = search needs
+decode-at-requires : tie.Need-decode-at-requires
+decode-at-requires c κs = search needs
 
 mul-put-result : tie.Need-mul-put-result
 mul-put-result c = search needs
@@ -116,29 +89,20 @@ same-length-4 c = search needs
 
 returns : tie.Need-returns
 returns c =
-    let s = c .before .before .before .before .before .before .before .before .before .before .before .before .before .before .before .before .before .before .before .before .before .before .before .before in
+    let s = c .before .before .before .before .before .before .before .before .before .before .before .before .before .before .before .before .before .before .before .before .before .before in
     let a = s .args in
     let p = s .pre in
     let done =
     result-done _ _ _ _ 14 (inr refl) (part-size (14 * a .k) _ 14 _ refl (omega (arith, p .0, p .6))) (part-size (11 * a .k) _ 11 _ refl (omega (arith, p .0, p .7)))
     (part-size (2 * a .k) _ 2 _ refl (omega (arith, p .0, p .8))) (c .before .before .before .before .before .before .put-result .ensures) in
-    let rows = long-rows (a .samples .now) (a .s) (a .indices .now) (a .k) (window-is (a .samples .now) (a .k)) (c .before .before .before .before .before .before .before .before .before .before .before .before .decode-in .ensures) (done .0) (done .1) (done .2) in
+    let rows = long-rows (a .samples .now) (a .s) (a .indices .now) (a .k) (c .before .before .before .before .before .before .before .before .before .before .before .before .decode-at .ensures) (done .0) (done .1) (done .2) in
     (placed (14 * a .k) _ 14 _ refl (rows .0), placed (11 * a .k) _ 11 _ refl (rows .1), placed (2 * a .k) _ 2 _ refl (rows .2))
 
 pub step-long-spec : {M : Type 1} → statement M
 step-long-spec =
     tie.close
     (tie.spec
-    mul-decode-in
-    mul-decode-in-2
-    add-decode-in
-    mul-decode-in-3
-    sub-decode-in
-    part-decode-in-start
-    part-decode-in-end
-    mul-decode-in-4
-    shared-slice-read-decode-in
-    decode-in-requires
+    decode-at-requires
     mul-put-result
     mul-put-result-2
     add-put-result

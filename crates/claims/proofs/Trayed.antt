@@ -3,17 +3,17 @@ use mathlib.Core.Path.{_≡_, refl, sym, ap, _∙_}
 use mathlib.Core.Bool.{Bool, true, false, _&&_, cond}
 use mathlib.Core.List.{List}
 use mathlib.Core.Logic.{_≢_}
-use Prim.Native.Nat.{ℕ, _*_, _<_}
+use Prim.Native.Nat.{ℕ, _<_}
 use native.Mathlib.Omega.{arith}
 use lib.Dec.{eqb, leb}
-use lib.ListN.{length, getD, take, drop}
+use lib.ListN.{getD}
 use lib.Ieee.{Float}
-use borrow.Author.Tests.{eqb-true, eqb-false, leb-true, eq-eqb, ne-eqb}
+use borrow.Author.Tests.{eqb-true, leb-true, eq-eqb}
 use Rattle.search.specs.declared.Settings.{Settings}
 use Rattle.search.specs.Kinds.{Kind}
-use Rattle.search.specs.Answers.{orNumber, settingsNumber}
+use Rattle.search.specs.Answers.{orNumber}
 use Rattle.rows.specs.Rows.{resultOf, numbersOf, Lent, rowsOf}
-use Rattle.rows.specs.Tray.{windowAt, messageOf, trayRow, bytesIn, wordsIn, floatsIn, trayNumber, trayInto}
+use Rattle.rows.specs.Tray.{kindsOf, windowAt, messageOf, trayRow, bytesIn, wordsIn, floatsIn, trayNumber, trayInto}
 use Rattle.rows.proofs.Beside.{row-at}
 use Rattle.rows.proofs.Sizes.{bytes-size, width-size}
 use Rattle.claims.specs.Trayed.{Written, resultAt, singleCalls, Trayed}
@@ -81,3 +81,10 @@ trayed kinds =
       refused = λ n samples s indices memory h. not-taken kinds n samples s indices memory h;
       few = λ n samples s indices memory e. few kinds n samples s indices memory e;
     }
+
+-- THE TRAY FOR LONG MESSAGES, AND THAT FOR BOTH SEARCHES of each window
+pub tray-long : Trayed (kindsOf false) (trayInto (kindsOf false))
+tray-long = trayed (kindsOf false)
+
+pub tray-both : Trayed (kindsOf true) (trayInto (kindsOf true))
+tray-both = trayed (kindsOf true)

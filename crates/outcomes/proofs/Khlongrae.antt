@@ -16,6 +16,8 @@ use Rattle.khlongrae.proofs.spectrum.khlongrae_long_fft_max_search as spectrum-
 use Rattle.khlongrae.proofs.spectrum.khlongrae_carrier_notched_power as spectrum-khlongrae-carrier-notched-power
 use Rattle.khlongrae.proofs.spectrum.khlongrae_check_carrier_metric as spectrum-khlongrae-check-carrier-metric
 use Rattle.khlongrae.proofs.spectrum.khlongrae_check_local_maximum as spectrum-khlongrae-check-local-maximum
+use Rattle.khlongrae.proofs.tray.khlongrae_tray as tray-khlongrae-tray
+use Rattle.khlongrae.proofs.tray.khlongrae_tray_both as tray-khlongrae-tray-both
 use Rattle.khlongrae.proofs.version.khlongrae_version as version-khlongrae-version
 
 pub address-khlongrae-address-kind-fixed : Fixed address-khlongrae-address-kind.ended (answer _) (λ M 𝓤 H. address-khlongrae-address-kind.clauses 𝓤 H) (λ M 𝓤 H. address-khlongrae-address-kind.spec 𝓤 H)
@@ -77,6 +79,16 @@ pub spectrum-khlongrae-check-local-maximum-fixed : Fixed spectrum-khlongrae-chec
 spectrum-khlongrae-check-local-maximum-fixed =
     fixes spectrum-khlongrae-check-local-maximum.ended _ (answer-set spectrum-khlongrae-check-local-maximum.ended) refl (λ κs. refl)
     (λ κs a r e. r) (λ κs a y. (y, (tt, tt))) (λ κs a r ws. refl)
+
+pub tray-khlongrae-tray-fixed : Fixed tray-khlongrae-tray.ended (answer _) (λ M 𝓤 H. tray-khlongrae-tray.clauses 𝓤 H) (λ M 𝓤 H. tray-khlongrae-tray.spec 𝓤 H)
+tray-khlongrae-tray-fixed =
+    fixes tray-khlongrae-tray.ended _ (answer-set tray-khlongrae-tray.ended) refl (λ κs. refl)
+    (λ κs a r e. (r, now (e .1 .1 .1 .1 .1 .1 .1 .0), now (e .1 .1 .1 .1 .1 .1 .1 .1 .0), now (e .1 .1 .1 .1 .1 .1 .1 .1 .1 .0))) (λ κs a y. (y .0, (tt, (tt, (tt, (tt, (tt, (tt, (tt, (y .1, (y .2, (y .3, tt)))))))))))) (λ κs a r ws. refl)
+
+pub tray-khlongrae-tray-both-fixed : Fixed tray-khlongrae-tray-both.ended (answer _) (λ M 𝓤 H. tray-khlongrae-tray-both.clauses 𝓤 H) (λ M 𝓤 H. tray-khlongrae-tray-both.spec 𝓤 H)
+tray-khlongrae-tray-both-fixed =
+    fixes tray-khlongrae-tray-both.ended _ (answer-set tray-khlongrae-tray-both.ended) refl (λ κs. refl)
+    (λ κs a r e. (r, now (e .1 .1 .1 .1 .1 .1 .1 .0), now (e .1 .1 .1 .1 .1 .1 .1 .1 .0), now (e .1 .1 .1 .1 .1 .1 .1 .1 .1 .0))) (λ κs a y. (y .0, (tt, (tt, (tt, (tt, (tt, (tt, (tt, (y .1, (y .2, (y .3, tt)))))))))))) (λ κs a r ws. refl)
 
 pub version-khlongrae-version-fixed : Fixed version-khlongrae-version.ended (answer _) (λ M 𝓤 H. version-khlongrae-version.clauses 𝓤 H) (λ M 𝓤 H. version-khlongrae-version.spec 𝓤 H)
 version-khlongrae-version-fixed =

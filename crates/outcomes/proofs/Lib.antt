@@ -17,6 +17,7 @@ pub mod Powers
 pub mod Probes
 pub mod Receiver
 pub mod Repairs
+pub mod Rows
 pub mod Scan
 pub mod Sieve
 pub mod Slicing

@@ -1,6 +1,7 @@
 -- Each public contract of receiver fixes its outcome. Written by tools/outcomes; the prover trusts nothing of it.
 -- Assumes nothing.
 use mathlib.Core.Path.{refl, ap}
+use denote.Ref.{now}
 use Rattle.outcomes.specs.Outcome.{Fixed, answer}
 use Rattle.outcomes.proofs.Law.{fixes, answer-set}
 use Rattle.receiver.proofs.Told.{attemptUntold, attempt-back}
@@ -14,6 +15,8 @@ use Rattle.receiver.proofs.decode.time_message_short as decode-time-message-sho
 use Rattle.receiver.proofs.decode.decode as decode-decode
 use Rattle.receiver.proofs.decode.decode_short as decode-decode-short
 use Rattle.receiver.proofs.decode.decode_both as decode-decode-both
+use Rattle.receiver.proofs.tray.decode_tray as tray-decode-tray
+use Rattle.receiver.proofs.tray.decode_tray_both as tray-decode-tray-both
 use Rattle.receiver.proofs.trials.try_decode as trials-try-decode
 
 pub decode-read-place-fixed : Fixed decode-read-place.ended (answer _) (λ M 𝓤 H. decode-read-place.clauses 𝓤 H) (λ M 𝓤 H. decode-read-place.spec 𝓤 H)
@@ -60,6 +63,16 @@ pub decode-decode-both-fixed : Fixed decode-decode-both.ended (answer _) (λ M �
 decode-decode-both-fixed =
     fixes decode-decode-both.ended _ (answer-set decode-decode-both.ended) refl (λ κs. refl)
     (λ κs a r e. r) (λ κs a y. (y, (tt, (tt, (tt, tt))))) (λ κs a r ws. refl)
+
+pub tray-decode-tray-fixed : Fixed tray-decode-tray.ended (answer _) (λ M 𝓤 H. tray-decode-tray.clauses 𝓤 H) (λ M 𝓤 H. tray-decode-tray.spec 𝓤 H)
+tray-decode-tray-fixed =
+    fixes tray-decode-tray.ended _ (answer-set tray-decode-tray.ended) refl (λ κs. refl)
+    (λ κs a r e. (r, now (e .1 .1 .1 .1 .0), now (e .1 .1 .1 .1 .1 .0), now (e .1 .1 .1 .1 .1 .1 .0))) (λ κs a y. (y .0, (tt, (tt, (tt, (tt, (y .1, (y .2, (y .3, tt))))))))) (λ κs a r ws. refl)
+
+pub tray-decode-tray-both-fixed : Fixed tray-decode-tray-both.ended (answer _) (λ M 𝓤 H. tray-decode-tray-both.clauses 𝓤 H) (λ M 𝓤 H. tray-decode-tray-both.spec 𝓤 H)
+tray-decode-tray-both-fixed =
+    fixes tray-decode-tray-both.ended _ (answer-set tray-decode-tray-both.ended) refl (λ κs. refl)
+    (λ κs a r e. (r, now (e .1 .1 .1 .1 .0), now (e .1 .1 .1 .1 .1 .0), now (e .1 .1 .1 .1 .1 .1 .0))) (λ κs a y. (y .0, (tt, (tt, (tt, (tt, (y .1, (y .2, (y .3, tt))))))))) (λ κs a r ws. refl)
 
 pub trials-try-decode-fixed : Fixed trials-try-decode.ended (answer _) (λ M 𝓤 H. trials-try-decode.clauses 𝓤 H) (λ M 𝓤 H. trials-try-decode.spec 𝓤 H)
 trials-try-decode-fixed =

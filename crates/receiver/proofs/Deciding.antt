@@ -9,7 +9,7 @@
 use mathlib.Core.Path.{_≡_, refl, sym, ap, _∙_, subst}
 use mathlib.Core.Bool.{Bool, true, false, _&&_, cond}
 use mathlib.Core.List.{List}
-use mathlib.Core.Logic.{_≢_, inl, inr}
+use mathlib.Core.Logic.{_≢_}
 use mathlib.Core.Option.{Option, none, some}
 use Prim.Native.Nat.{ℕ, _^_, _≤_}
 use native.Mathlib.Omega.{arith}
@@ -17,7 +17,6 @@ use borrow.Author.Tests.{eqb-true, eqb-false, leb-true, eq-eqb, ne-eqb}
 use lib.Dec.{eqb, leb}
 use lib.ListN.{length, take}
 use lib.Ieee.{Float}
-use Rattle.annex10.proofs.Repairing.{length-repaired}
 use Rattle.place.specs.declared.Place.{Place}
 use Rattle.place.specs.declared.location.Location.{Location}
 use Rattle.place.specs.Step.{sampleStart}
@@ -29,7 +28,6 @@ use Rattle.timing.proofs.Laws.{few-moves}
 use Rattle.lists.proofs.Table.{length-tabulate}
 use Rattle.kernels.specs.Symbols.{symbolsOf, sumsOf, symbolIn, symbolsIn, setOut}
 use Rattle.kernels.proofs.Summing.{set-done, sums-length, symbols-in}
-use Rattle.streams.proofs.Reading.{message-length}
 use Rattle.search.specs.declared.Settings.{Settings}
 use Rattle.search.specs.declared.Candidate.{Candidate}
 use Rattle.search.specs.declared.Survivor.{Survivor}
@@ -39,13 +37,13 @@ use Rattle.search.specs.declared.ShortAnswer.{ShortAnswer}
 use Rattle.search.specs.declared.BothAnswers.{BothAnswers}
 use Rattle.search.specs.Choice.{candidate, candidateAt, best}
 use Rattle.search.specs.Window.{Window}
-use Rattle.search.specs.Kinds.{Kind, placesOf, long, short}
-use Rattle.search.specs.Seen.{row, bitsAt, promptAt, windowOf, seen}
+use Rattle.search.specs.Kinds.{Kind, long, short}
+use Rattle.search.specs.Seen.{row, promptAt, windowOf, seen}
 use Rattle.search.specs.When.{promptOf, about, timingAt, indexOf}
 use Rattle.floats.specs.Numbers.{zeroF}
 use Rattle.search.specs.Answers.{orNumber, windowNumber, settingsNumber, indexNumber, placeNumber, searchedNumber, noCandidate, refusedAnswer, survivorOf, survivorOr, readAt, bestOf, arrivalAt, answered, decodeOf}
-use Rattle.search.proofs.Scanning.{scan-from, survivor-is, not-some}
 use Rattle.search.proofs.Locating.{sited-taken, best-sited}
+use Rattle.rows.proofs.Sizes.{filled, best-filled}
 use Rattle.receiver.specs.Inner.{heldOf, Searched, powerIn, seenIn, arrivalIn, Weighed, cutAnswer, answerIn}
 use Rattle.receiver.proofs.EitherKind.{Right, within-listed}
 use Rattle.receiver.proofs.Prompting.{timing-seen}
@@ -124,26 +122,6 @@ module _ (k : Kind) (samples : List Float) {n : ℕ} (z : n ≡ 0) where
 pub read-none : (k : Kind) (o : Option Candidate) {x : Survivor} → x ≡ heldOf k o → x .number ≢ 0 → o ≡ none
 read-none k none e z = refl
 read-none k (some c) e z = absurd (z (ap (λ (r : Survivor). r .number) e))
-
--- what a candidate at a place is
-record Filled (w : Window) (k : Kind) (a : Candidate) : Type 0 where
-  size : length (a .message) ≡ k .bytes
-  power : a .prompt ≡ w .prompt (a .location .place) (a .message)
-
-filled : (k : Kind) (s : Settings) (samples : List Float) (p : Place) {a : Candidate}
-    → candidateAt k s (seen k samples) p ≡ some a → Filled (seen k samples) k a
-unfolding candidateAt candidate windowOf bitsAt
-filled k s samples p e =
-    let v = survivor-is s (seen k samples) _ e in
-    subst (Filled (seen k samples) k) (v .is)
-    (record { size = length-repaired _ _ ∙ message-length _ (k .bytes) (v .of .place .bit); power = refl })
-
-best-filled : (k : Kind) (s : Settings) (samples : List Float) {a : Candidate} → best k s (seen k samples) ≡ some a → Filled (seen k samples) k a
-unfolding best
-best-filled k s samples e = elim (scan-from (candidateAt k s (seen k samples)) (placesOf k) none e) [
-  | inl q ↦ not-some q
-  | inr q ↦ filled k s samples (q .0) (q .2)
-]
 
 best-searched : (k : Kind) → Right k → (s : Settings) (w : Window) {a : Candidate} → best k s w ≡ some a → Searched k (a .location)
 best-searched k r s w {a} e =

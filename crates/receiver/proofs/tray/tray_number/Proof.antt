@@ -1,7 +1,6 @@
 -- `receiver::tray::tray_number` meets its contract. Assumes nothing.
 use mathlib.Core.Path.{sym, _∙_}
 use mathlib.Core.Logic.{inl, inr}
-use native.Mathlib.Omega.{arith}
 use borrow.Author.Tests.{not-true, not-false}
 use Rattle.receiver.proofs.Traying.{none-fit, no-room, settings-left}
 use borrow.Author.Needs.{needs}

@@ -11,3 +11,4 @@ pub mod Rolling
 pub mod Any
 pub mod UpTo
 pub mod Length
+pub mod Shifts

@@ -1,5 +1,7 @@
 // The types of a repair and of an address, whose meaning stands in specs/; how many bytes a message has, and how many positions a repair
 // names, and whether they lie in it.
+pub mod division;
+
 ghost use mathlib.Core.Path.{_≡_};
 ghost use Prim.Native.Nat.{_*_};
 ghost use lib.Dec.{ltb};

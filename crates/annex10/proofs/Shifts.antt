@@ -1,0 +1,60 @@
+-- A byte of the division by shifts.
+--     shifts-are     the shifts of a byte are its remainder: all 256 are computed
+--     byte-lt        the byte that is divided
+--     brought        what the code computes
+--     bring-more     WHAT IT IS FOR: from the remainder of a string to that of the string and one byte more
+-- Assumes nothing.
+use mathlib.Core.Path.{_≡_, sym, ap, ap₂, _∙_}
+use mathlib.Core.Bool.{Bool}
+use mathlib.Core.List.{List, [], _∷_, _++_}
+use Prim.Native.Nat.{ℕ, _+_, _-_, _*_, _/_, _%_, _^_, _<_}
+use native.Mathlib.Nat.{mod-eq-of-lt}
+use native.Mathlib.Omega.{arith}
+use lib.Dec.{eqb, eqb→eq}
+use lib.Bits.{bitXor, bitAnd, xor-lt, and-mask, mask-lt}
+use Rattle.lists.proofs.Test.{below}
+use Rattle.annex10.specs.Remainder.{remainder, bringByte}
+use Rattle.annex10.proofs.Linear.{remainder-lt}
+use Rattle.annex10.proofs.Bytewise.{remainder-table}
+
+-- as the code has it; m is all bits of a word where the byte is odd, or none
+abbrev shifts : ℕ → ℕ → ℕ
+shifts b m =
+    bitXor (bitXor (bitXor (bitXor (b * 2 ^ 11 % 2 ^ 32) (bitXor b (b / 2 ^ 1) * 2 ^ 10 % 2 ^ 32)) (bitXor b (b / 2 ^ 1) * 2 ^ 3 % 2 ^ 32)) (bitXor b (b / 2 ^ 1)))
+    (bitAnd m 0xfff800)
+
+test : ℕ → Bool
+test b = eqb (shifts b (bitAnd b 1 * 0xffffffff)) (remainder (b ∷ []))
+
+shifts-test : (b : ℕ) → b < 256 → shifts b (bitAnd b 1 * 0xffffffff) ≡ remainder (b ∷ [])
+unfolding test remainder
+shifts-test b h = eqb→eq _ _ (below 256 test tt b h)
+
+pub shifts-are : (b m : ℕ) → b < 256 → m < 2 ^ 32 → (m + bitAnd b 1) % 2 ^ 32 ≡ 0
+    → bitXor (bitXor (bitXor (bitXor (b * 2 ^ 11 % 2 ^ 32) (bitXor b (b / 2 ^ 1) * 2 ^ 10 % 2 ^ 32)) (bitXor b (b / 2 ^ 1) * 2 ^ 3 % 2 ^ 32)) (bitXor b (b / 2 ^ 1)))
+    (bitAnd m 0xfff800) ≡ remainder (b ∷ [])
+shifts-are b m h l e =
+    let x = bitAnd b 1 in
+    let two : x < 2 = mask-lt b 1 in
+    let z : m ≡ x * 0xffffffff = omega arith in
+    ap (shifts b) z ∙ shifts-test b h
+
+pub byte-lt : (crc : ℕ) → bitAnd (crc / 2 ^ 16) 255 < 256
+byte-lt crc = mask-lt (crc / 2 ^ 16) 8
+
+pub brought : (crc b r : ℕ) → r ≡ remainder (bitXor (bitAnd (crc / 2 ^ 16) 255) b ∷ [])
+    → bitXor (bitAnd crc (2 ^ 16 - 1) * 2 ^ 8 % 2 ^ 32) r ≡ bringByte crc b
+unfolding bringByte
+brought crc b r e =
+    let m : crc % 2 ^ 16 * 2 ^ 8 < 2 ^ 32 = omega arith in
+    ap₂ bitXor (ap (λ (x : ℕ). x * 2 ^ 8 % 2 ^ 32) (and-mask crc 16) ∙ mod-eq-of-lt m)
+    (e ∙ ap (λ (x : ℕ). remainder (bitXor x b ∷ [])) (and-mask (crc / 2 ^ 16) 8))
+
+pub bring-more : (xs : List ℕ) (crc b : ℕ) → crc ≡ remainder xs → bringByte crc b ≡ remainder (xs ++ (b ∷ []))
+unfolding bringByte
+bring-more xs crc b e =
+    let l = remainder-lt xs in
+    let q : crc / 2 ^ 16 % 2 ^ 8 ≡ crc / 2 ^ 16 = omega arith in
+    ap (λ (x : ℕ). bitXor (crc % 2 ^ 16 * 2 ^ 8) (remainder (bitXor x b ∷ []))) q
+    ∙ ap (λ (r : ℕ). bitXor (r % 2 ^ 16 * 2 ^ 8) (remainder (bitXor (r / 2 ^ 16) b ∷ []))) e
+    ∙ sym (remainder-table xs b)

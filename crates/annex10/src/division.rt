@@ -1,0 +1,22 @@
+// A byte of the division by shifts and xors, without a table.
+use std::num::wrapping_sub_u32;
+ghost use mathlib.Core.Path.{_≡_};
+ghost use mathlib.Core.List.{[], _∷_};
+ghost use Rattle.annex10.specs.Remainder.{remainder, bringByte};
+
+// The remainder of one byte. The generator's terms x^23 to x^12 stand in a row: times x + 1 they are two, so what a byte adds is a few
+// shifts of the byte and of the byte times x + 1.
+fn byte_crc24(byte: u8) -> u32
+    ensures { λ r. ⌜ r ≡ remainder (byte ∷ []) ⌝ }
+{
+    let b = byte as u32;
+    let q = b ^ (b >> 1);
+    (b << 11) ^ (q << 10) ^ (q << 3) ^ q ^ (wrapping_sub_u32(0, b & 1) & 0xfff800)
+}
+
+// Eight steps of the division. A remainder has 24 bits, and what stands above them is not looked at.
+pub fn bring_byte(crc: u32, byte: u8) -> u32
+    ensures { λ r. ⌜ r ≡ bringByte crc byte ⌝ }
+{
+    ((crc & 0xffff) << 8) ^ byte_crc24((((crc >> 16) & 0xff) as u8) ^ byte)
+}

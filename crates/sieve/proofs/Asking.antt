@@ -9,15 +9,15 @@
 -- Assumes nothing.
 use mathlib.Core.Path.{_≡_, refl, sym, ap, _∙_}
 use mathlib.Core.Bool.{Bool, true, false, true≢false, cond, _&&_, _||_}
-use mathlib.Core.List.{List, [], _++_, map, append-nil}
+use mathlib.Core.List.{List, [], _++_, map, append-nil, append-assoc}
 use Prim.Native.Nat.{ℕ, _+_, _-_, _*_, _^_, _<_, _≤_, min}
 use native.Mathlib.Nat.{le-refl}
 use native.Mathlib.Omega.{arith}
 use borrow.Author.Tests.{eq-eqb, ne-eqb, eqb-true}
 use borrow.Rule.Slice.PartMut.{putMid}
 use lib.Dec.{eqb}
-use lib.ListN.{length, getD, take, drop, length-drop, drop-of-length-le, length-map, List·getD-map}
-use lib.Seq.{take-all, take-at, length-take-le, getD-take, getD-drop}
+use lib.ListN.{length, getD, take, drop, length-append, length-drop, drop-of-length-le, length-map, List·getD-map}
+use lib.Seq.{take-all, take-at, drop-at, drop-drop, length-take-le, getD-take, getD-drop}
 use Rattle.lists.proofs.Test.{or-none}
 use Rattle.annex10.proofs.UpTo.{zero-gone, gone-high}
 use Rattle.repairs.specs.Codes.{codeUpTo}
@@ -25,7 +25,7 @@ use Rattle.scan.specs.declared.list.Listed.{Listed}
 use Rattle.scan.specs.Sieve.{kept, laneOf}
 use Rattle.sieve.specs.declared.hash.Shape.{Shape}
 use Rattle.sieve.specs.Repairable.{repairable, repairableAt, refusedIn, repairableIn, repairableInto}
-use Rattle.sieve.specs.Tables.{oneDisplacements, oneOwners, twoDisplacements, twoOwners}
+use Rattle.sieve.specs.Tables.{oneDisplacements, oneOwners, onePositions, twoDisplacements, twoOwners}
 use Rattle.sieve.specs.Hash.{atOne, atTwo, lets, asks, hashDisplacements, hashOwners, hashInto, hashFits, askedIn, sievedInto}
 use Rattle.sieve.specs.Inner.{letIn, Shaped, Gathered, Sifted}
 use Rattle.sieve.proofs.Clears.{apart, rep-none}
@@ -37,21 +37,21 @@ pub fits-own : (ds os : List ℕ) → length ds ≡ 0 → eqb (length os) 0 ≡ 
 unfolding hashFits
 fits-own ds os e = rw e (go (eqb (length os) 0))
   where
-    go : (t : Bool) → t ≡ (true && t) || (false && eqb (length os) 8448)
+    go : (t : Bool) → t ≡ (true && t) || (false && eqb (length os) 8704)
     go true = refl
     go false = refl
 
-pub fits-lent : (ds os : List ℕ) → length ds ≡ 2176 → eqb (length os) 8448 ≡ hashFits ds os
+pub fits-lent : (ds os : List ℕ) → length ds ≡ 2688 → eqb (length os) 8704 ≡ hashFits ds os
 unfolding hashFits
 fits-lent ds os e = rw e
 
-pub fits-not : (ds os : List ℕ) → (length ds ≡ 0 → ⊥) → (length ds ≡ 2176 → ⊥) → false ≡ hashFits ds os
+pub fits-not : (ds os : List ℕ) → (length ds ≡ 0 → ⊥) → (length ds ≡ 2688 → ⊥) → false ≡ hashFits ds os
 unfolding hashFits
-fits-not ds os p q = rw (ne-eqb (length ds) 0 p, ne-eqb (length ds) 2176 q)
+fits-not ds os p q = rw (ne-eqb (length ds) 0 p, ne-eqb (length ds) 2688 q)
 
-pub fits-both : (ds os : List ℕ) → hashFits ds os ≡ true → length os ≡ 8448 → length ds ≡ 2176
+pub fits-both : (ds os : List ℕ) → hashFits ds os ≡ true → length os ≡ 8704 → length ds ≡ 2688
 unfolding hashFits
-fits-both ds os h e = eqb-true (length ds) 2176 (go (eqb (length ds) 0) (eqb (length ds) 2176) (rw e at h))
+fits-both ds os h e = eqb-true (length ds) 2688 (go (eqb (length ds) 0) (eqb (length ds) 2688) (rw e at h))
   where
     go : (s t : Bool) → (s && false) || (t && true) ≡ true → t ≡ true
     go s true q = refl
@@ -62,34 +62,34 @@ fits-both ds os h e = eqb-true (length ds) 2176 (go (eqb (length ds) 0) (eqb (le
 rest : (n : ℕ) (xs : List ℕ) → take (length xs - n) (drop n xs) ≡ drop n xs
 rest n xs = take-all (length xs - n) (drop n xs) (omega (arith, length-drop n xs))
 
-module _ (ds os : List ℕ) (a : length ds ≡ 2176) (b : length os ≡ 8448) (near : (i : ℕ) → getD ds i 0 < 256) where
-  pub shaped-one : Shaped atOne (take 128 ds) (take 256 os)
+module _ (ds os : List ℕ) (a : length ds ≡ 2688) (b : length os ≡ 8704) (near : (i : ℕ) → getD ds i 0 < 256) where
+  pub shaped-one : Shaped atOne (take 128 ds) (take 512 os)
   shaped-one =
       let l : length (take 128 ds) ≡ 128 = length-take-le 128 ds (omega arith) in
-      let m : length (take 256 os) ≡ 256 = length-take-le 256 os (omega arith) in
+      let m : length (take 512 os) ≡ 512 = length-take-le 512 os (omega arith) in
       record {
         small = omega arith;
         few = omega arith;
-        bits = 8;
+        bits = 9;
         width = omega arith;
-        near = λ i h. rw (getD-take 128 ds i 0 (omega arith)) (near i);
+        near = λ i h. rw (getD-take 128 ds i 0 (omega arith)) (omega (arith, near i));
         many = omega arith;
         room = omega arith;
       }
 
-  pub shaped-two : Shaped atTwo (take (length ds - 128) (drop 128 ds)) (take (length os - 256) (drop 256 os))
-  shaped-two = rw (rest 128 ds, rest 256 os) shaped
+  pub shaped-two : Shaped atTwo (take 2048 (drop 128 ds)) (take (length os - 512) (drop 512 os))
+  shaped-two = rw (rest 512 os) shaped
     where
-      shaped : Shaped atTwo (drop 128 ds) (drop 256 os)
+      shaped : Shaped atTwo (take 2048 (drop 128 ds)) (drop 512 os)
       shaped =
-          let l : length (drop 128 ds) ≡ 2048 = length-drop 128 ds ∙ omega arith in
-          let m : length (drop 256 os) ≡ 8192 = length-drop 256 os ∙ omega arith in
+          let l : length (take 2048 (drop 128 ds)) ≡ 2048 = length-take-le 2048 (drop 128 ds) (omega (arith, length-drop 128 ds)) in
+          let m : length (drop 512 os) ≡ 8192 = length-drop 512 os ∙ omega arith in
           record {
             small = omega arith;
             few = omega arith;
             bits = 13;
             width = omega arith;
-            near = λ i h. rw (getD-drop 128 ds i 0) (omega (arith, near (128 + i)));
+            near = λ i h. rw (getD-take 2048 (drop 128 ds) i 0 (omega arith), getD-drop 128 ds i 0) (omega (arith, near (128 + i)));
             many = omega arith;
             room = omega arith;
           }
@@ -97,26 +97,26 @@ module _ (ds os : List ℕ) (a : length ds ≡ 2176) (b : length os ≡ 8448) (n
 -- ---- what is asked
 
 module _ (level : ℕ) (ds os : List ℕ) where
-  pub asked-one : length os ≡ 8448 → level ≡ 1 → (crcs : List ℕ) → askedIn level ds os crcs ≡ map (asks atOne (take 128 ds) (take 256 os)) crcs
+  pub asked-one : length os ≡ 8704 → level ≡ 1 → (crcs : List ℕ) → askedIn level ds os crcs ≡ map (asks atOne (take 128 ds) (take 512 os)) crcs
   unfolding askedIn
-  asked-one e h crcs = rw (eq-eqb (length os) 8448 e, eq-eqb level 1 h)
+  asked-one e h crcs = rw (eq-eqb (length os) 8704 e, eq-eqb level 1 h)
 
-  pub asked-two : length os ≡ 8448 → (level ≡ 1 → ⊥) → (crcs : List ℕ) → askedIn level ds os crcs ≡ map (asks atTwo (drop 128 ds) (drop 256 os)) crcs
+  pub asked-two : length os ≡ 8704 → (level ≡ 1 → ⊥) → (crcs : List ℕ) → askedIn level ds os crcs ≡ map (asks atTwo (take 2048 (drop 128 ds)) (drop 512 os)) crcs
   unfolding askedIn
-  asked-two e h crcs = rw (eq-eqb (length os) 8448 e, ne-eqb level 1 h)
+  asked-two e h crcs = rw (eq-eqb (length os) 8704 e, ne-eqb level 1 h)
 
-  pub asked-own : (length os ≡ 8448 → ⊥) → (crcs : List ℕ) → askedIn level ds os crcs ≡ crcs
+  pub asked-own : (length os ≡ 8704 → ⊥) → (crcs : List ℕ) → askedIn level ds os crcs ≡ crcs
   unfolding askedIn
-  asked-own e crcs = rw (ne-eqb (length os) 8448 e)
+  asked-own e crcs = rw (ne-eqb (length os) 8704 e)
 
   pub length-asked : (crcs : List ℕ) → length (askedIn level ds os crcs) ≡ length crcs
   unfolding askedIn
-  length-asked crcs = go (eqb (length os) 8448) (eqb level 1)
+  length-asked crcs = go (eqb (length os) 8704) (eqb level 1)
     where
-      go : (s t : Bool) → length (cond s (cond t (map (asks atOne (take 128 ds) (take 256 os)) crcs) (map (asks atTwo (drop 128 ds) (drop 256 os)) crcs)) crcs)
+      go : (s t : Bool) → length (cond s (cond t (map (asks atOne (take 128 ds) (take 512 os)) crcs) (map (asks atTwo (take 2048 (drop 128 ds)) (drop 512 os)) crcs)) crcs)
           ≡ length crcs
-      go true true = length-map crcs (asks atOne (take 128 ds) (take 256 os))
-      go true false = length-map crcs (asks atTwo (drop 128 ds) (drop 256 os))
+      go true true = length-map crcs (asks atOne (take 128 ds) (take 512 os))
+      go true false = length-map crcs (asks atTwo (take 2048 (drop 128 ds)) (drop 512 os))
       go false t = refl
 
 module _ (s : Shape) (d o : List ℕ) where
@@ -166,23 +166,23 @@ module _ (s : Shape) (d o : List ℕ) where
 
 -- by the part of the level, and where nothing is lent
 module _ (level many : ℕ) (ds os crcs others through asked : List ℕ) (n : ℕ) where
-  pub lent-one : length os ≡ 8448 → level ≡ 1 → n ≤ many → length through ≡ many
-      → take n through ≡ kept (letIn atOne (take 128 ds) (take 256 os) crcs others) many
-      → Gathered many atOne (take 128 ds) (take 256 os) crcs others through asked n
+  pub lent-one : length os ≡ 8704 → level ≡ 1 → n ≤ many → length through ≡ many
+      → take n through ≡ kept (letIn atOne (take 128 ds) (take 512 os) crcs others) many
+      → Gathered many atOne (take 128 ds) (take 512 os) crcs others through asked n
       → Sifted level many (askedIn level ds os crcs) (askedIn level ds os others) through asked n
   lent-one e l h g q w =
       rw (asked-one level ds os e l crcs, asked-one level ds os e l others)
-      (sifted-lent atOne (take 128 ds) (take 256 os) level many crcs others through asked n h g q w)
+      (sifted-lent atOne (take 128 ds) (take 512 os) level many crcs others through asked n h g q w)
 
-  pub lent-two : length os ≡ 8448 → (level ≡ 1 → ⊥) → n ≤ many → length through ≡ many
-      → take n through ≡ kept (letIn atTwo (take (length ds - 128) (drop 128 ds)) (take (length os - 256) (drop 256 os)) crcs others) many
-      → Gathered many atTwo (take (length ds - 128) (drop 128 ds)) (take (length os - 256) (drop 256 os)) crcs others through asked n
+  pub lent-two : length os ≡ 8704 → (level ≡ 1 → ⊥) → n ≤ many → length through ≡ many
+      → take n through ≡ kept (letIn atTwo (take 2048 (drop 128 ds)) (take (length os - 512) (drop 512 os)) crcs others) many
+      → Gathered many atTwo (take 2048 (drop 128 ds)) (take (length os - 512) (drop 512 os)) crcs others through asked n
       → Sifted level many (askedIn level ds os crcs) (askedIn level ds os others) through asked n
   lent-two e l h g q w =
       rw (asked-two level ds os e l crcs, asked-two level ds os e l others)
-      (sifted-lent atTwo (drop 128 ds) (drop 256 os) level many crcs others through asked n h g (rw (rest 128 ds, rest 256 os) at q) (rw (rest 128 ds, rest 256 os) at w))
+      (sifted-lent atTwo (take 2048 (drop 128 ds)) (drop 512 os) level many crcs others through asked n h g (rw (rest 512 os) at q) (rw (rest 512 os) at w))
 
-  pub lent-none : {l : ℕ} → (length os ≡ 8448 → ⊥) → level ≡ l → Sifted l many crcs others through asked n
+  pub lent-none : {l : ℕ} → (length os ≡ 8704 → ⊥) → level ≡ l → Sifted l many crcs others through asked n
       → Sifted level many (askedIn level ds os crcs) (askedIn level ds os others) through asked n
   lent-none e h w = rw (asked-own level ds os e crcs, asked-own level ds os e others) (rw h w)
 
@@ -217,7 +217,11 @@ pub length-one : length oneDisplacements ≡ 128
 unfolding oneDisplacements
 length-one = refl
 
-pub length-one-owners : length oneOwners ≡ 256
+pub length-two : length twoDisplacements ≡ 2048
+unfolding twoDisplacements
+length-two = refl
+
+pub length-one-owners : length oneOwners ≡ 512
 unfolding oneOwners
 length-one-owners = refl
 
@@ -228,12 +232,35 @@ joined n p q xs e =
     = drop-of-length-le (drop n (p ++ drop n xs)) {i = length (p ++ drop n xs) - n} (omega (arith, length-drop n (p ++ drop n xs))) in
     rw (take-at p (drop n xs) n e, z, append-nil q)
 
-pub written : (ds os p q u v : List ℕ) → length ds ≡ 2176 → length os ≡ 8448 → (p ≡ oneDisplacements) × (u ≡ oneOwners)
-    → (q ≡ twoDisplacements) × (v ≡ twoOwners)
-    → (0, putMid 128 (length (p ++ drop 128 ds) - 128) (p ++ drop 128 ds) q, putMid 256 (length (u ++ drop 256 os) - 256) (u ++ drop 256 os) v)
+-- three, the second between the others
+between : (n m : ℕ) (p q xs : List ℕ) → length p ≡ n → length q ≡ m → putMid n m (p ++ drop n xs) q ≡ (p ++ q) ++ drop (n + m) xs
+between n m p q xs e g =
+    rw (take-at p (drop n xs) n e, drop-at p (drop n xs) n e, drop-drop m n xs) (sym (append-assoc p q (drop (n + m) xs)))
+
+pub written : (ds os p q s u v : List ℕ) → length ds ≡ 2688 → length os ≡ 8704 → (p ≡ oneDisplacements) × (q ≡ twoDisplacements) × (s ≡ onePositions)
+    → (u ≡ oneOwners) × (v ≡ twoOwners)
+    → (
+      0,
+      putMid 2176 (length (putMid 128 2048 (p ++ drop 128 ds) q) - 2176) (putMid 128 2048 (p ++ drop 128 ds) q) s,
+      putMid 512 (length (u ++ drop 512 os) - 512) (u ++ drop 512 os) v,
+    )
     ≡ hashInto ds os
 unfolding hashInto hashDisplacements hashOwners
-written ds os p q u v a b e g =
+written ds os p q s u v a b e g =
     let l : length p ≡ 128 = ap length (e .0) ∙ length-one in
-    let m : length u ≡ 256 = ap length (e .1) ∙ length-one-owners in
-    rw (joined 128 p q ds l, joined 256 u v os m, eq-eqb (length ds) 2176 a, eq-eqb (length os) 8448 b, e .0, e .1, g .0, g .1)
+    let k : length q ≡ 2048 = ap length (e .1) ∙ length-two in
+    let i : length (p ++ q) ≡ 2176 = length-append p q ∙ rw (l, k) in
+    let m : length u ≡ 512 = ap length (g .0) ∙ length-one-owners in
+    rw (
+      between 128 2048 p q ds l k,
+      joined 2176 (p ++ q) s ds i,
+      joined 512 u v os m,
+      eq-eqb (length ds) 2688 a,
+      eq-eqb (length os) 8704 b,
+      append-assoc p q s,
+      e .0,
+      e .1,
+      e .2,
+      g .0,
+      g .1,
+    )

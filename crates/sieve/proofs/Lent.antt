@@ -4,7 +4,7 @@
 -- Assumes nothing.
 use mathlib.Core.Path.{_≡_, refl, sym, ap, _∙_}
 use mathlib.Core.Bool.{Bool, true}
-use mathlib.Core.List.{List, [], _∷_, map}
+use mathlib.Core.List.{List, [], _∷_, _++_, map}
 use mathlib.Core.Logic.{inl, inr}
 use Prim.Native.Nat.{ℕ, zero, suc, _≤_, min}
 use native.Mathlib.Decide.{ℕ-discrete}
@@ -17,36 +17,37 @@ use Rattle.repairs.specs.Codes.{codeUpTo}
 use Rattle.scan.specs.Sieve.{kept, laneOf}
 use Rattle.sieve.specs.declared.hash.Shape.{Shape}
 use Rattle.sieve.specs.Repairable.{repairable, repairableAt, repairablePlaces, codePairs, repairableIn, repairableInto}
-use Rattle.sieve.specs.Tables.{oneDisplacements, oneOwners, twoDisplacements, twoOwners}
+use Rattle.sieve.specs.Tables.{oneDisplacements, oneOwners, onePositions, twoDisplacements, twoOwners}
 use Rattle.sieve.specs.Hash.{atOne, atTwo, asks, hashDisplacements, hashOwners, hashInto, hashFits, Hashed, askedIn, sievedInto}
 use Rattle.sieve.specs.Inner.{Owners}
 use Rattle.sieve.proofs.Clears.{coded}
 use Rattle.sieve.proofs.Owning.{asks-same}
 use Rattle.sieve.proofs.Owned.{one-owners, two-owners}
-use Rattle.sieve.proofs.Asking.{asked-one, asked-two, getD-asks, length-one, length-one-owners}
+use Rattle.sieve.proofs.Asking.{asked-one, asked-two, getD-asks, length-one, length-two, length-one-owners}
 
-pub hash-written : (ds os : List ℕ) {r : ℕ} {ds' os' : List ℕ} → length ds ≡ 2176 → length os ≡ 8448 → (r, ds', os') ≡ hashInto ds os
+pub hash-written : (ds os : List ℕ) {r : ℕ} {ds' os' : List ℕ} → length ds ≡ 2688 → length os ≡ 8704 → (r, ds', os') ≡ hashInto ds os
     → (ds' ≡ hashDisplacements) × (os' ≡ hashOwners)
 unfolding hashInto
 hash-written ds os a b e =
-    let q = rw (eq-eqb (length ds) 2176 a, eq-eqb (length os) 8448 b) at e in
+    let q = rw (eq-eqb (length ds) 2688 a, eq-eqb (length os) 8704 b) at e in
     (ap (λ (p : ℕ × List ℕ × List ℕ). p .1) q, ap (λ (p : ℕ × List ℕ × List ℕ). p .2) q)
 
 -- ---- its parts
 
-length-two : length twoDisplacements ≡ 2048
-unfolding twoDisplacements
-length-two = refl
+length-positions : length onePositions ≡ 512
+unfolding onePositions
+length-positions = refl
 
 length-two-owners : length twoOwners ≡ 8192
 unfolding twoOwners
 length-two-owners = refl
 
-length-hash : length hashDisplacements ≡ 2176
+length-hash : length hashDisplacements ≡ 2688
 unfolding hashDisplacements
-length-hash = length-append oneDisplacements twoDisplacements ∙ rw (length-one, length-two)
+length-hash =
+    length-append oneDisplacements (twoDisplacements ++ onePositions) ∙ rw (length-append twoDisplacements onePositions, length-one, length-two, length-positions)
 
-length-hash-owners : length hashOwners ≡ 8448
+length-hash-owners : length hashOwners ≡ 8704
 unfolding hashOwners
 length-hash-owners = length-append oneOwners twoOwners ∙ rw (length-one-owners, length-two-owners)
 
@@ -56,19 +57,21 @@ hash-fits = rw (length-hash, length-hash-owners)
 
 front : take 128 hashDisplacements ≡ oneDisplacements
 unfolding hashDisplacements
-front = take-at oneDisplacements twoDisplacements 128 length-one
+front = take-at oneDisplacements (twoDisplacements ++ onePositions) 128 length-one
 
-front-owners : take 256 hashOwners ≡ oneOwners
+front-owners : take 512 hashOwners ≡ oneOwners
 unfolding hashOwners
-front-owners = take-at oneOwners twoOwners 256 length-one-owners
+front-owners = take-at oneOwners twoOwners 512 length-one-owners
 
-back : drop 128 hashDisplacements ≡ twoDisplacements
+back : take 2048 (drop 128 hashDisplacements) ≡ twoDisplacements
 unfolding hashDisplacements
-back = drop-at oneDisplacements twoDisplacements 128 length-one
+back =
+    ap (take 2048) (drop-at oneDisplacements (twoDisplacements ++ onePositions) 128 length-one)
+    ∙ take-at twoDisplacements onePositions 2048 length-two
 
-back-owners : drop 256 hashOwners ≡ twoOwners
+back-owners : drop 512 hashOwners ≡ twoOwners
 unfolding hashOwners
-back-owners = drop-at oneOwners twoOwners 256 length-one-owners
+back-owners = drop-at oneOwners twoOwners 512 length-one-owners
 
 -- what is asked with the hash is what one that keeps its rule lets through
 record Lets (level : ℕ) : Type 0 where

@@ -13,11 +13,11 @@ use Rattle.sieve.proofs.Owning.{below-n, owns, single-owns, pair-owns, 
 
 pub one-owners : Owners 1 atOne oneDisplacements oneOwners
 unfolding owner-rule sizes below-n read stands owns single-owns pair-owns pairs-own all-own grow singles singlesFrom oneDisplacements oneOwners
-one-owners = owner-law 1 16 7 8 oneDisplacements oneOwners tt
+one-owners = owner-law 1 15 7 9 16 oneDisplacements oneOwners tt
 
 pub two-owners : Owners 2 atTwo twoDisplacements twoOwners
 unfolding owner-rule sizes below-n read stands owns single-owns pair-owns pairs-own all-own grow singles singlesFrom twoDisplacements twoOwners
-two-owners = owner-law 2 11 11 13 twoDisplacements twoOwners tt
+two-owners = owner-law 2 11 11 13 12 twoDisplacements twoOwners tt
 
 pub two-owners-as : {ds os : List ℕ} → ds ≡ twoDisplacements → os ≡ twoOwners → Owners 2 atTwo ds os
 two-owners-as e g = rw (e, g) two-owners

@@ -37,48 +37,49 @@ use Rattle.sieve.specs.Inner.{letIn, Shaped, Owners}
 use Rattle.sieve.proofs.Placed.{placed, read, stands, read-is}
 use Rattle.sieve.proofs.Clears.{rep-none, fewer-gone}
 
--- ---- the test: n bits name the owner, k choose the displacement, b are a slot's; ss are the remainders of the single positions
+-- ---- the test: of a remainder the lowest k bits choose the displacement, b bits from the lowest n on are the slot's, and the low l name the
+-- owner; ss are the remainders of the single positions
 
 unfoldable pub below-n : ℕ → ℕ → ℕ → Bool
 below-n n i x = ltb x n
 
-unfoldable pub owns : ℕ → ℕ → ℕ → Tree → Tree → ℕ → Bool
-owns n k b ds os r =
+unfoldable pub owns : ℕ → ℕ → ℕ → ℕ → Tree → Tree → ℕ → Bool
+owns n k b l ds os r =
     let z = bitXor (r / 2 ^ n % 2 ^ b) (read ds (r % 2 ^ k)) in
-    both (stands ds (r % 2 ^ k)) (both (stands os z) (eqb (read os z) (r % 2 ^ n)))
+    both (stands ds (r % 2 ^ k)) (both (stands os z) (eqb (read os z % 2 ^ l) (r % 2 ^ l)))
 
-unfoldable pub single-owns : ℕ → ℕ → ℕ → List ℕ → Tree → Tree → ℕ → Bool
-single-owns n k b ss ds os j = owns n k b ds os (getD ss j 0)
+unfoldable pub single-owns : ℕ → ℕ → ℕ → ℕ → List ℕ → Tree → Tree → ℕ → Bool
+single-owns n k b l ss ds os j = owns n k b l ds os (getD ss j 0)
 
-unfoldable pub pair-owns : ℕ → ℕ → ℕ → List ℕ → Tree → Tree → ℕ → ℕ → Bool
-pair-owns n k b ss ds os l j = owns n k b ds os (bitXor (getD ss j 0) (getD ss l 0))
+unfoldable pub pair-owns : ℕ → ℕ → ℕ → ℕ → List ℕ → Tree → Tree → ℕ → ℕ → Bool
+pair-owns n k b l ss ds os i j = owns n k b l ds os (bitXor (getD ss j 0) (getD ss i 0))
 
-unfoldable pub pairs-own : ℕ → ℕ → ℕ → List ℕ → Tree → Tree → ℕ → Bool
-pairs-own n k b ss ds os l = allBelow l (pair-owns n k b ss ds os l)
+unfoldable pub pairs-own : ℕ → ℕ → ℕ → ℕ → List ℕ → Tree → Tree → ℕ → Bool
+pairs-own n k b l ss ds os i = allBelow i (pair-owns n k b l ss ds os i)
 
 -- pairs from level 2 on
 abbrev pub unless : Bool → Bool → Bool
 unless true b = true
 unless false b = b
 
-unfoldable pub all-own : ℕ → ℕ → ℕ → ℕ → List ℕ → Tree → Tree → Bool
-all-own level n k b ss ds os = both (allBelow 112 (single-owns n k b ss ds os)) (unless (leb level 1) (allBelow 112 (pairs-own n k b ss ds os)))
+unfoldable pub all-own : ℕ → ℕ → ℕ → ℕ → ℕ → List ℕ → Tree → Tree → Bool
+all-own level n k b l ss ds os = both (allBelow 112 (single-owns n k b l ss ds os)) (unless (leb level 1) (allBelow 112 (pairs-own n k b l ss ds os)))
 
 unfoldable pub sizes : ℕ → ℕ → ℕ → List ℕ → List ℕ → Bool
 sizes n k b d o =
     both (ltb n 32) (both (leb 256 (2 ^ b)) (both (leb (2 ^ b) 65536) (both (eqb (length d) (2 ^ k)) (eqb (length o) (2 ^ b)))))
 
-unfoldable pub owner-rule : ℕ → ℕ → ℕ → ℕ → List ℕ → List ℕ → List ℕ → Bool
-owner-rule level n k b ss d o =
+unfoldable pub owner-rule : ℕ → ℕ → ℕ → ℕ → ℕ → List ℕ → List ℕ → List ℕ → Bool
+owner-rule level n k b l ss d o =
     both (sizes n k b d o)
     (both (every (below-n 256) 0 d)
     (both (every (below-n 65536) 0 o)
-    (all-own level n k b ss (grow 12 (placed 0 d) .0) (grow 14 (placed 0 o) .0))))
+    (all-own level n k b l ss (grow 12 (placed 0 d) .0) (grow 14 (placed 0 o) .0))))
 
 -- ---- what it shows
 
-abbrev pub shapeOf : ℕ → ℕ → ℕ → Shape
-shapeOf n k b = record { index = 2 ^ k - 1; shift = n; slots = 2 ^ b - 1; low = 2 ^ n - 1 }
+abbrev pub shapeOf : ℕ → ℕ → ℕ → ℕ → Shape
+shapeOf n k b l = record { index = 2 ^ k - 1; shift = n; slots = 2 ^ b - 1; low = 2 ^ l - 1 }
 
 unless-not : (a b : Bool) → (T a → ⊥) → T (unless a b) → T b
 unless-not true b h t = absurd (h tt)
@@ -87,14 +88,14 @@ unless-not false b h t = t
 two-above : (level : ℕ) → 2 ≤ level → level ≤ 1 → ⊥
 two-above level h l = omega arith
 
-module _ (level n k b : ℕ) (d o : List ℕ) where
+module _ (level n k b l : ℕ) (d o : List ℕ) where
   ds : Tree
   ds = grow 12 (placed 0 d) .0
 
   os : Tree
   os = grow 14 (placed 0 o) .0
 
-  slot-is : (r : ℕ) → slotOf (shapeOf n k b) d r ≡ bitXor (r / 2 ^ n % 2 ^ b) (getD d (r % 2 ^ k) 0)
+  slot-is : (r : ℕ) → slotOf (shapeOf n k b l) d r ≡ bitXor (r / 2 ^ n % 2 ^ b) (getD d (r % 2 ^ k) 0)
   slot-is r = rw (and-mask (r / 2 ^ n) b, and-mask r k)
 
   module _ (small : (i : ℕ) → i < length d → getD d i 0 < 256) (small16 : (z : ℕ) → z < length o → getD o z 0 < 65536) where
@@ -106,29 +107,29 @@ module _ (level n k b : ℕ) (d o : List ℕ) where
     unfolding os
     read-o z t = read-is 14 o small16 z t .1
 
-    owner-of : (r : ℕ) → T (owns n k b ds os r) → getD o (slotOf (shapeOf n k b) d r) 0 ≡ bitAnd r (2 ^ n - 1)
+    owner-of : (r : ℕ) → T (owns n k b l ds os r) → bitAnd (getD o (slotOf (shapeOf n k b l) d r) 0) (2 ^ l - 1) ≡ bitAnd r (2 ^ l - 1)
     unfolding owns
     owner-of r t =
         let z = bitXor (r / 2 ^ n % 2 ^ b) (read ds (r % 2 ^ k)) in
         let x = stands ds (r % 2 ^ k) in
         let y = stands os z in
-        let w = eqb (read os z) (r % 2 ^ n) in
+        let w = eqb (read os z % 2 ^ l) (r % 2 ^ l) in
         let u = both-right x (both y w) t in
-        rw (slot-is r, read-d (r % 2 ^ k) (both-left x (both y w) t), and-mask r n)
-        (read-o z (both-left y w u) ∙ eqb→eq (read os z) (r % 2 ^ n) (both-right y w u))
+        rw (slot-is r, read-d (r % 2 ^ k) (both-left x (both y w) t), and-mask (getD o z 0) l, and-mask r l, read-o z (both-left y w u))
+        (eqb→eq (read os z % 2 ^ l) (r % 2 ^ l) (both-right y w u))
 
-    all-there : T (all-own level n k b singles ds os) → (ρ : Repairs) → Proper 14 ρ → 1 ≤ count ρ → count ρ ≤ level
-        → getD o (slotOf (shapeOf n k b) d (pattern 14 ρ)) 0 ≡ bitAnd (pattern 14 ρ) (2 ^ n - 1)
+    all-there : T (all-own level n k b l singles ds os) → (ρ : Repairs) → Proper 14 ρ → 1 ≤ count ρ → count ρ ≤ level
+        → bitAnd (getD o (slotOf (shapeOf n k b l) d (pattern 14 ρ)) 0) (2 ^ l - 1) ≡ bitAnd (pattern 14 ρ) (2 ^ l - 1)
     unfolding all-own single-owns pairs-own pair-owns S
-    all-there t None h l m = absurd (omega arith)
-    all-there t (One j) h l m =
-        rw (single-is j h) (owner-of (getD singles j 0) (below 112 (single-owns n k b singles ds os) (both-left (allBelow 112 (single-owns n k b singles ds os)) _ t) j h))
-    all-there t (Two j i) h l m =
-        let u = both-right (allBelow 112 (single-owns n k b singles ds os)) (unless (leb level 1) (allBelow 112 (pairs-own n k b singles ds os))) t in
-        let v = unless-not (leb level 1) (allBelow 112 (pairs-own n k b singles ds os)) (λ q. two-above level m (leb→le level 1 q)) u in
+    all-there t None h g m = absurd (omega arith)
+    all-there t (One j) h g m =
+        rw (single-is j h) (owner-of (getD singles j 0) (below 112 (single-owns n k b l singles ds os) (both-left (allBelow 112 (single-owns n k b l singles ds os)) _ t) j h))
+    all-there t (Two j i) h g m =
+        let u = both-right (allBelow 112 (single-owns n k b l singles ds os)) (unless (leb level 1) (allBelow 112 (pairs-own n k b l singles ds os))) t in
+        let v = unless-not (leb level 1) (allBelow 112 (pairs-own n k b l singles ds os)) (λ q. two-above level m (leb→le level 1 q)) u in
         rw (two-is j i (h .0) (h .1))
         (owner-of (bitXor (getD singles j 0) (getD singles i 0))
-        (below i (pair-owns n k b singles ds os i) (below 112 (pairs-own n k b singles ds os) v i (h .1)) j (h .0)))
+        (below i (pair-owns n k b l singles ds os i) (below 112 (pairs-own n k b l singles ds os) v i (h .1)) j (h .0)))
 
 record Sizes (n k b : ℕ) (d o : List ℕ) : Type 0 where
   shift : n < 32
@@ -156,9 +157,9 @@ sized n k b d o t =
       many = eqb→eq (length o) (2 ^ b) (both-right z w t3);
     }
 
-pub owner-law : (level n k b : ℕ) (d o : List ℕ) → T (owner-rule level n k b singles d o) → Owners level (shapeOf n k b) d o
+pub owner-law : (level n k b l : ℕ) (d o : List ℕ) → T (owner-rule level n k b l singles d o) → Owners level (shapeOf n k b l) d o
 unfolding owner-rule ds os below-n
-owner-law level n k b d o t =
+owner-law level n k b l d o t =
     record {
       shaped =
           record {
@@ -170,7 +171,7 @@ owner-law level n k b d o t =
             many = omega (arith, s .many);
             room = s .room;
           };
-      there = all-there level n k b d o small small16 (both-right y z t2);
+      there = all-there level n k b l d o small small16 (both-right y z t2);
     }
   where
     x : Bool
@@ -180,7 +181,7 @@ owner-law level n k b d o t =
     y = every (below-n 65536) 0 o
 
     z : Bool
-    z = all-own level n k b singles (ds level n k b d o) (os level n k b d o)
+    z = all-own level n k b l singles (ds level n k b l d o) (os level n k b l d o)
 
     s : Sizes n k b d o
     s = sized n k b d o (both-left (sizes n k b d o) (both x (both y z)) t)
@@ -216,13 +217,17 @@ module _ (s : Shape) (d o : List ℕ) where
   pub index-lt : Shaped s d o → (r : ℕ) → bitAnd r (s .index) < length d
   index-lt w r = lt-of-le-of-lt (and-le-r r (s .index)) (w .few)
 
-  pub lets-hit : (r : ℕ) → getD o (slotOf s d r) 0 ≡ bitAnd r (s .low) → 1 ≡ asBit (lets s d o r)
-  unfolding lets
-  lets-hit r e = rw (eq-eqb (getD o (slotOf s d r) 0) (bitAnd r (s .low)) e)
+  -- what the slot of a remainder names
+  abbrev owner : ℕ → ℕ
+  owner r = bitAnd (getD o (slotOf s d r) 0) (s .low)
 
-  pub lets-miss : (r : ℕ) → (getD o (slotOf s d r) 0 ≡ bitAnd r (s .low) → ⊥) → 0 ≡ asBit (lets s d o r)
+  pub lets-hit : (r : ℕ) → owner r ≡ bitAnd r (s .low) → 1 ≡ asBit (lets s d o r)
   unfolding lets
-  lets-miss r e = rw (ne-eqb (getD o (slotOf s d r) 0) (bitAnd r (s .low)) e)
+  lets-hit r e = rw (eq-eqb (owner r) (bitAnd r (s .low)) e)
+
+  pub lets-miss : (r : ℕ) → (owner r ≡ bitAnd r (s .low) → ⊥) → 0 ≡ asBit (lets s d o r)
+  unfolding lets
+  lets-miss r e = rw (ne-eqb (owner r) (bitAnd r (s .low)) e)
 
   -- what is asked, by the two tests
   pub asks-let : (r : ℕ) {x : ℕ} → x ≡ asBit (lets s d o r) → x ≡ 1 → r ≡ asks s d o r
@@ -255,8 +260,8 @@ module _ (s : Shape) (d o : List ℕ) where
     unfolding lets
     lets-none r f m a b =
         not-found 14 m r
-        (λ ρ c. eqb-false (getD o (slotOf s d r) 0) (bitAnd r (s .low)) f
-        (subst (λ (x : ℕ). getD o (slotOf s d x) 0 ≡ bitAnd x (s .low)) (c .fits)
+        (λ ρ c. eqb-false (owner r) (bitAnd r (s .low)) f
+        (subst (λ (x : ℕ). owner x ≡ bitAnd x (s .low)) (c .fits)
         (w .there ρ (c .proper) (omega (arith, c .many)) (omega (arith, c .many)))))
 
     module _ (n : ℕ) (few : n ≤ 14) where

@@ -42,7 +42,7 @@ pub record Shaped (s : Shape) (ds os : List ℕ) : Type 0 where
 pub record Owners (level : ℕ) (s : Shape) (ds os : List ℕ) : Type 0 where
   pub shaped : Shaped s ds os
   pub there : (ρ : Repairs) → Proper 14 ρ → 1 ≤ count ρ → count ρ ≤ level
-      → getD os (slotOf s ds (pattern 14 ρ)) 0 ≡ bitAnd (pattern 14 ρ) (s .low)
+      → bitAnd (getD os (slotOf s ds (pattern 14 ρ)) 0) (s .low) ≡ bitAnd (pattern 14 ρ) (s .low)
 
 -- the first n places are below so many
 pub record Within (many : ℕ) (through : List ℕ) (n : ℕ) : Type 0 where

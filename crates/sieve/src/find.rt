@@ -21,8 +21,8 @@ ghost use Rattle.sieve.specs.Inner.{bytesOf, mostOf, Shaped, letIn, Gath
 
 const AT_ONE: Shape = Shape {
     index: 0x7f,
-    shift: 16,
-    slots: 0xff,
+    shift: 15,
+    slots: 0x1ff,
     low: 0xffff,
 };
 
@@ -30,7 +30,7 @@ const AT_TWO: Shape = Shape {
     index: 0x7ff,
     shift: 11,
     slots: 0x1fff,
-    low: 0x7ff,
+    low: 0xfff,
 };
 
 // The places that a lent hash lets through, and what is to be asked for them.
@@ -107,15 +107,15 @@ fn sift_lent(
     through: &mut [u16],
     asked: &mut [u32],
 ) -> usize
-    requires { ⌜ (m ≤ 87) × (length (now displacements) ≡ 2176) × (length (now owners) ≡ 8448) × (length (now crcs) ≡ 8 * m) × (length (now others) ≡ 8 * m) × (length (now through) ≡ 8 * m) × (length (now asked) ≡ 2 * (8 * m)) ⌝ }
+    requires { ⌜ (m ≤ 87) × (length (now displacements) ≡ 2688) × (length (now owners) ≡ 8704) × (length (now crcs) ≡ 8 * m) × (length (now others) ≡ 8 * m) × (length (now through) ≡ 8 * m) × (length (now asked) ≡ 2 * (8 * m)) ⌝ }
     ensures { λ r. ⌜ Sifted level (8 * m) (askedIn level (now (displacements .entry)) (now (owners .entry)) (now (crcs .entry))) (askedIn level (now (displacements .entry)) (now (owners .entry)) (now (others .entry))) (now (through .exit)) (now (asked .exit)) r ⌝ }
 {
     if level != 1 {
         return sift_in(
             m,
             AT_TWO,
-            &displacements[128..],
-            &owners[256..],
+            &displacements[128..2176],
+            &owners[512..],
             crcs,
             others,
             through,
@@ -126,7 +126,7 @@ fn sift_lent(
         m,
         AT_ONE,
         &displacements[..128],
-        &owners[..256],
+        &owners[..512],
         crcs,
         others,
         through,
@@ -148,7 +148,7 @@ fn sift(
     requires { ⌜ (1 ≤ level) × (level ≤ 2) × (m ≤ 87) × (hashFits (now displacements) (now owners) ≡ true) × (length (now crcs) ≡ 8 * m) × (length (now others) ≡ 8 * m) × (length (now through) ≡ 8 * m) × (length (now asked) ≡ 2 * (8 * m)) ⌝ }
     ensures { λ r. ⌜ Sifted level (8 * m) (askedIn level (now (displacements .entry)) (now (owners .entry)) (now (crcs .entry))) (askedIn level (now (displacements .entry)) (now (owners .entry)) (now (others .entry))) (now (through .exit)) (now (asked .exit)) r ⌝ }
 {
-    if owners.len() == 8448 {
+    if owners.len() == 8704 {
         return sift_lent(
             level,
             m,

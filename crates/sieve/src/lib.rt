@@ -30,8 +30,8 @@ fn hash_fits(displacements: &[u8], owners: &[u16]) -> bool
     if displacements.len() == 0 {
         return owners.len() == 0;
     }
-    if displacements.len() == 2176 {
-        return owners.len() == 8448;
+    if displacements.len() == 2688 {
+        return owners.len() == 8704;
     }
     false
 }

@@ -15,7 +15,7 @@ fn owned(shape: Shape, displacements: &[u8], owners: &[u16], crc: u32) -> usize
 {
     let displacement = displacements[(crc & shape.index) as usize] as u32;
     let slot = ((crc >> shape.shift) & shape.slots) ^ displacement;
-    if owners[slot as usize] as u32 == crc & shape.low {
+    if owners[slot as usize] as u32 & shape.low == crc & shape.low {
         1
     } else {
         0

@@ -47,7 +47,7 @@ slice-aggregate-sift-in : tie.Need-slice-aggregate-sift-in
 slice-aggregate-sift-in c = let s = c .before .before .before .before .before .before .before .before in part-length 128 (now (s .args .displacements)) (omega (arith, s .pre .1))
 
 slice-aggregate-sift-in-2 : tie.Need-slice-aggregate-sift-in-2
-slice-aggregate-sift-in-2 c = let s = c .before .before .before .before .before .before .before .before .before in part-length 256 (now (s .args .owners)) (omega (arith, s .pre .2))
+slice-aggregate-sift-in-2 c = let s = c .before .before .before .before .before .before .before .before .before in part-length 512 (now (s .args .owners)) (omega (arith, s .pre .2))
 
 sift-in-requires-2 : tie.Need-sift-in-requires-2
 sift-in-requires-2 c κs =

@@ -1,6 +1,5 @@
 -- The remainder of a string of bits, one bit on: what leaves and what enters is put right. f is a bit for each place.
 --     rolled     times x; plus the bit that enters, times x^24; plus the bit that leaves, times x^24 and the length
---     left-all, left-less, left-none   the remainder as a sum: its first bit is taken away, then the next, until none is left
 -- Assumes nothing.
 use mathlib.Core.Path.{_≡_, refl, sym, ap, ap₂, _∙_}
 use mathlib.Core.List.{List, _∷_, _++_}
@@ -137,23 +136,3 @@ module _ (f : ℕ → ℕ) (bit : (i : ℕ) → f i < 2) where
       ∙ ap (λ (x : ℕ). bitXor x (shift 24 b))
       (shift-shift 24 1 d ∙ sym (shift-shift 1 24 d) ∙ ap (shift 1) (sym (remainder-packed n o))))
       (shift-shift 24 (8 * n) (f o))
-
--- the n bits from o on, times x^24
-pub left : (ℕ → ℕ) → ℕ → ℕ → ℕ
-left f o n = shift 24 (D f o n)
-
-module _ (f : ℕ → ℕ) (bit : (i : ℕ) → f i < 2) where
-  pub left-all : (n o : ℕ) → remainder (packed n (λ (j : ℕ). f (o + j))) ≡ left f o (8 * n)
-  unfolding left
-  left-all n o = remainder-packed f bit n o
-
-  pub left-less : (o n : ℕ) → left f o (suc n) ≡ bitXor (shift (n + 24) (f o)) (left f (suc o) n)
-  unfolding left D
-  left-less o n =
-      ap (shift 24) (fewer f bit o n)
-      ∙ shift-linear 24 (shift n (f o)) (D f (suc o) n) (shift-lt n (f o) (small f bit o)) (D-lt f bit (suc o) n)
-      ∙ ap (λ (x : ℕ). bitXor x (shift 24 (D f (suc o) n))) (shift-shift 24 n (f o))
-
-  pub left-none : (o : ℕ) → left f o 0 ≡ 0
-  unfolding left D from
-  left-none o = refl

@@ -1,6 +1,6 @@
 pub mod Comparing
 pub mod Rolled
-pub mod Adding
+pub mod Dividing
 pub mod Starting
 pub mod Packing
 pub mod Keeping

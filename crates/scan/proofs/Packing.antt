@@ -1,5 +1,6 @@
 -- A byte of a lane, bit by bit.
---     bit-more     one bit more
+--     value-more   one bit more of a byte
+--     bit-more     the same of a byte of a lane
 --     lane-byte    byte k of a lane
 --     first-byte   the first byte of the message at a bit of a lane
 --     lane-done, byte-done    the answers where nothing is refused
@@ -19,31 +20,38 @@ use Rattle.lists.proofs.Bits.{value-lt, value-same, bitAt-packed}
 use Rattle.streams.specs.Streams.{messageAt}
 use Rattle.scan.specs.Lanes.{laneBit, laneBytes, laneInto, byteFrom, firstByte}
 
+-- the first bits of a byte, and the next, as the code takes it
+module _ (f : ℕ → ℕ) (bit : (i : ℕ) → f i < 2) (j : ℕ) where
+  low : (m : ℕ) → m < 8 → value f j m < 128
+  low zero h = omega (arith, value-lt f bit j 0)
+  low (suc zero) h = omega (arith, value-lt f bit j 1)
+  low (suc (suc zero)) h = omega (arith, value-lt f bit j 2)
+  low (suc (suc (suc zero))) h = omega (arith, value-lt f bit j 3)
+  low (suc (suc (suc (suc zero)))) h = omega (arith, value-lt f bit j 4)
+  low (suc (suc (suc (suc (suc zero))))) h = omega (arith, value-lt f bit j 5)
+  low (suc (suc (suc (suc (suc (suc zero)))))) h = omega (arith, value-lt f bit j 6)
+  low (suc (suc (suc (suc (suc (suc (suc zero))))))) h = omega (arith, value-lt f bit j 7)
+  low (suc (suc (suc (suc (suc (suc (suc (suc m)))))))) h = omega arith
+
+  pub value-more : (m b : ℕ) {x : ℕ} → m < 8 → b ≡ value f j m → x ≡ f (j + m) → bitOr (b * 2 % 256) x ≡ value f j (m + 1)
+  unfolding value
+  value-more m b h e g =
+      let y = f (j + m) in
+      let l : b * 2 < 256 = omega (arith, e, low m h) in
+      let o : bitOr (b * 2) y ≡ b * 2 + y = or-shifted b 1 y (bit (j + m)) in
+      rw (g, mod-eq-of-lt l, add-one m) (o ∙ ap (λ (x : ℕ). x * 2 + y) e)
+
 module _ (bits : List ℕ) (t : ℕ) where
   bit-lt : (i : ℕ) → laneBit bits t i < 2
   unfolding laneBit
   bit-lt i = omega arith
 
-  low : (m : ℕ) → m < 8 → value (laneBit bits t) 0 m < 128
-  low zero h = omega (arith, value-lt (laneBit bits t) bit-lt 0 0)
-  low (suc zero) h = omega (arith, value-lt (laneBit bits t) bit-lt 0 1)
-  low (suc (suc zero)) h = omega (arith, value-lt (laneBit bits t) bit-lt 0 2)
-  low (suc (suc (suc zero))) h = omega (arith, value-lt (laneBit bits t) bit-lt 0 3)
-  low (suc (suc (suc (suc zero)))) h = omega (arith, value-lt (laneBit bits t) bit-lt 0 4)
-  low (suc (suc (suc (suc (suc zero))))) h = omega (arith, value-lt (laneBit bits t) bit-lt 0 5)
-  low (suc (suc (suc (suc (suc (suc zero)))))) h = omega (arith, value-lt (laneBit bits t) bit-lt 0 6)
-  low (suc (suc (suc (suc (suc (suc (suc zero))))))) h = omega (arith, value-lt (laneBit bits t) bit-lt 0 7)
-  low (suc (suc (suc (suc (suc (suc (suc (suc m)))))))) h = omega arith
-
   pub bit-more : (m b : ℕ) {x : ℕ} → m < 8 → b ≡ value (laneBit bits t) 0 m → x ≡ getD bits (t + 8 * m) 0 % 2
       → bitOr (b * 2 % 256) x ≡ value (laneBit bits t) 0 (m + 1)
-  unfolding value laneBit
+  unfolding laneBit
   bit-more m b h e g =
-      let y = getD bits (t + 8 * m) 0 % 2 in
-      let l : b * 2 < 256 = omega (arith, e, low m h) in
-      let o : bitOr (b * 2) y ≡ b * 2 + y = or-shifted b 1 y (omega arith) in
       let z : 0 + m ≡ m = omega arith in
-      rw (g, mod-eq-of-lt l, add-one m, z) (o ∙ ap (λ (x : ℕ). x * 2 + y) e)
+      value-more (laneBit bits t) bit-lt 0 m b h e (g ∙ ap (laneBit bits t) (sym z))
 
   -- eight bits of a lane from bit i on
   pub byte-later : (i : ℕ) → byteFrom bits (8 * i + t) ≡ value (laneBit bits t) i 8

@@ -6,7 +6,7 @@
 use mathlib.Core.Path.{_≡_, refl, sym, ap, _∙_, subst, fun-ext}
 use mathlib.Core.List.{List}
 use Prim.Native.Nat.{ℕ, zero, suc, _+_, _*_, _/_, _%_, _^_, _<_}
-use native.Mathlib.Nat.{add-zero, zero-mul, one-mul, mul-comm, mod-eq-of-lt}
+use native.Mathlib.Nat.{add-zero, zero-mul, one-mul, mod-eq-of-lt}
 use native.Mathlib.Omega.{arith}
 use lib.Bits.{bitXor, bitAnd, xor-zero-r, and-comm, and-zero-r, and-mask}
 use lib.Dec.{lit<}
@@ -14,10 +14,10 @@ use lib.ListN.{getD, replicate}
 use Rattle.lists.specs.Bits.{packed}
 use Rattle.annex10.specs.Remainder.{generator, less, bring, divide, remainder}
 use Rattle.annex10.proofs.Linear.{remainder-lt}
+use Rattle.annex10.proofs.Bytewise.{shift}
 use Rattle.annex10.proofs.Rolling.{rolled}
 use Rattle.scan.specs.Flat.{messageFrom, crcIn}
 use Rattle.scan.specs.Inner.{Digits, leavingPower, next}
-use Rattle.scan.proofs.Adding.{times-bit}
 
 -- a word of ones or zeros takes a number or nothing
 taken : (b x : ℕ) → b < 2 → x < 2 ^ 32 → bitAnd (b * 0xffffffff) x ≡ b * x
@@ -56,10 +56,16 @@ pub crc-lt : (n : ℕ) (bits : List ℕ) (i : ℕ) {crc : ℕ} → crc ≡ crcIn
 unfolding crcIn
 crc-lt n bits i e = subst (λ (x : ℕ). x < 2 ^ 24) (sym e) (remainder-lt (messageFrom n bits (8 + i)))
 
+shift-zero : (m : ℕ) → shift m 0 ≡ 0
+shift-zero zero = refl
+shift-zero (suc m) = shift-zero m
+
 -- the bit that leaves a message of n bytes
 leaves : (n b : ℕ) → b < 2 → b * leavingPower n ≡ divide b (replicate (8 * n + 24) 0)
 unfolding leavingPower
-leaves n b h = mul-comm b (leavingPower n) ∙ times-bit (8 * n + 24) b h
+leaves n zero h = zero-mul (leavingPower n) ∙ sym (shift-zero (8 * n + 24))
+leaves n (suc zero) h = one-mul (leavingPower n)
+leaves n (suc (suc b)) h = omega arith
 
 pub crc-next : (n power : ℕ) (bits : List ℕ) → power ≡ leavingPower n → Digits bits → (i : ℕ) {crc r : ℕ} → crc ≡ crcIn n bits i
     → r ≡ next power crc (getD bits (i + 8) 0) (getD bits (i + 8 + 64 * n) 0) → r ≡ crcIn n bits (i + 8)

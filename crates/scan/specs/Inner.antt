@@ -3,13 +3,13 @@
 use mathlib.Core.Path.{_≡_}
 use mathlib.Core.Bool.{Bool, _||_, cond}
 use mathlib.Core.List.{List}
-use Prim.Native.Nat.{ℕ, zero, suc, _+_, _-_, _*_, _<_, _≤_}
+use Prim.Native.Nat.{ℕ, zero, suc, _+_, _*_, _<_, _≤_}
 use lib.Bits.{bitXor, bitOr}
 use lib.Dec.{ltb, eqb}
 use lib.ListN.{length, getD, replicate}
 use lib.Ieee.{Float, nan, lt}
 use Rattle.lists.specs.From.{tabulate}
-use Rattle.lists.specs.Bits.{asBit}
+use Rattle.lists.specs.Bits.{asBit, value}
 use Rattle.math.specs.Complex.{normOf}
 use Rattle.annex10.specs.Remainder.{bring, divide}
 use Rattle.kernels.specs.Symbols.{complexAt}
@@ -53,10 +53,9 @@ leavingPower n = divide 1 (replicate (8 * n + 24) 0)
 unfoldable pub next : ℕ → ℕ → ℕ → ℕ → ℕ
 next power crc leaving entering = bitXor (bitXor (bring crc 0) (divide entering (replicate 24 0))) (leaving * power)
 
--- number j is x^(135 - j) modulo the generator
-pub record PowerTable (t : List ℕ) : Type 0 where
-  pub size : length t ≡ 112
-  pub each : (j : ℕ) → j < 112 → getD t j 0 ≡ divide 1 (replicate (135 - j) 0)
+-- the number that the first m bits of byte i write, of the message that starts with sample 8 + t
+unfoldable pub byteIn : ℕ → ℕ → List ℕ → ℕ → ℕ
+byteIn i m bits t = value (λ (j : ℕ). getD bits (8 + t + 8 * j) 0) (8 * i) m
 
 -- ---- lists
 

@@ -1,27 +1,23 @@
-// The remainders at the first bit offset, as sums.
-use crate::tables::POWERS;
-ghost use Prim.Native.Nat.{_≤_};
+// The remainders at the first bit offset, byte by byte: eight messages side by side.
+use annex10::division::bring_byte;
+ghost use Prim.Native.Nat.{_<_, _≤_};
 ghost use lib.ListN.{length};
 ghost use Rattle.lists.proofs.Table.{Done};
 ghost use Rattle.scan.specs.Flat.{crcIn};
-ghost use Rattle.scan.specs.Inner.{Digits, PowerTable};
+ghost use Rattle.scan.specs.Inner.{Digits, byteIn};
 
-// Each bit adds its power of x, in eight lanes: those of a message of n bytes are the last of the table.
-fn first_in(n: usize, powers: &[u32; 112], bits: &[u8], crcs: &mut [u32])
-    requires { ⌜ (n ≤ 14) × PowerTable (now powers) × Digits (now bits) × (8 ≤ length (now crcs)) ⌝ }
-    ensures { λ _. ⌜ Done 0 (crcIn n (now (bits .entry))) (length (now (crcs .entry))) (now (crcs .exit)) 8 ⌝ }
+// Byte i of the messages that start with samples 8 to 15. Bits of one number lie side by side, so the inner loop takes all eight at once.
+fn bytes_at(i: usize, bits: &[u8]) -> [u8; 8]
+    requires { ⌜ (i < 14) × Digits (now bits) ⌝ }
+    ensures { λ r. ⌜ Done 0 (byteIn i 8 (now (bits .entry))) 8 r 8 ⌝ }
 {
-    let from = 112 - 8 * n;
-    let mut r = [0u32; 8];
-    for j in 0..8 * n {
-        let x = powers[from + j];
+    let mut bytes = [0u8; 8];
+    for j in 0..8 {
         for t in 0..8 {
-            r[t] = r[t] ^ (x * (bits[8 * j + 8 + t] as u32));
+            bytes[t] = (bytes[t] << 1) | bits[64 * i + 8 * j + 8 + t];
         }
     }
-    for t in 0..8 {
-        crcs[t] = r[t];
-    }
+    bytes
 }
 
 // The remainders of the messages of n bytes that start with samples 8 to 15.
@@ -29,5 +25,14 @@ pub fn first_row(n: usize, bits: &[u8], crcs: &mut [u32])
     requires { ⌜ (n ≤ 14) × Digits (now bits) × (8 ≤ length (now crcs)) ⌝ }
     ensures { λ _. ⌜ Done 0 (crcIn n (now (bits .entry))) (length (now (crcs .entry))) (now (crcs .exit)) 8 ⌝ }
 {
-    first_in(n, &POWERS, bits, crcs);
+    let mut r = [0u32; 8];
+    for i in 0..n {
+        let bytes = bytes_at(i, bits);
+        for t in 0..8 {
+            r[t] = bring_byte(r[t], bytes[t]);
+        }
+    }
+    for t in 0..8 {
+        crcs[t] = r[t];
+    }
 }

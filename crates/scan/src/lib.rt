@@ -7,5 +7,4 @@ pub mod list;
 mod marks;
 mod rows;
 pub mod stream;
-mod tables;
 pub mod window;

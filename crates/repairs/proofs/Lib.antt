@@ -1,3 +1,4 @@
 pub mod Rules
 pub mod Lookup
 pub mod Coding
+pub mod Naming

@@ -1,14 +1,16 @@
 -- What private functions rest on: no public contract cites it.
--- The rules of the sorted tables: an entry is a remainder in front of the 8 bits of a position. And the codes of 7 bytes by those of 14.
+-- The rules of the sorted tables: an entry is a remainder in front of the 8 bits of a position. The codes of 7 bytes by those of 14. And
+-- positions that are named.
 -- Assumes nothing.
 use mathlib.Core.Path.{_≡_}
-use mathlib.Core.Bool.{cond}
+use mathlib.Core.Bool.{Bool, false, _&&_, cond}
 use mathlib.Core.List.{List}
 use Prim.Native.Nat.{ℕ, _-_, _*_, _/_, _%_, _^_, _<_, _≤_}
-use lib.Dec.{ltb}
+use lib.Dec.{ltb, eqb}
 use lib.ListN.{getD, length}
 use Rattle.lists.specs.From.{tabulate}
-use Rattle.annex10.specs.declared.Repairs.the-variants.{One, Two}
+use Rattle.annex10.specs.declared.Repairs.{Repairs}
+use Rattle.annex10.specs.declared.Repairs.the-variants.{None, One, Two}
 use Rattle.annex10.specs.Repair.{Proper, pattern}
 
 -- the entry at i; its remainder; its position
@@ -50,3 +52,9 @@ shortCode code = cond (ltb code 65535) (cond (ltb code (56 * 256)) 65536 (code -
 
 unfoldable pub shortCodes : List ℕ → List ℕ
 shortCodes codes = tabulate (length codes) (λ (i : ℕ). shortCode (getD codes i 0))
+
+-- one position clears a remainder of 14 bytes, or two in their order
+unfoldable pub clearedBy : Repairs → ℕ → Bool
+clearedBy None r = false
+clearedBy (One j) r = ltb j 112 && eqb (pattern 14 (One j)) r
+clearedBy (Two j k) r = ltb j k && (ltb k 112 && eqb (pattern 14 (Two j k)) r)

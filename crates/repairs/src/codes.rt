@@ -5,14 +5,14 @@ use crate::search::single_in;
 use annex10::Found;
 use annex10::Repairs;
 ghost use mathlib.Core.Path.{_≡_};
-ghost use Prim.Native.Nat.{_≤_};
+ghost use Prim.Native.Nat.{_≤_, min};
 ghost use lib.ListN.{length};
 ghost use Rattle.annex10.specs.Codes.{codeOf};
 ghost use Rattle.repairs.specs.Codes.{codeUpTo, codesUpTo};
 ghost use Rattle.repairs.specs.Inner.{SingleTable, shortCode, shortCodes};
 
 // What is found, as a number.
-fn code_of(found: Found) -> u32
+pub fn code_of(found: Found) -> u32
     ensures { λ r. ⌜ r ≡ codeOf found ⌝ }
 {
     match found {
@@ -26,7 +26,7 @@ fn code_of(found: Found) -> u32
 }
 
 // With no position: 0 alone is cleared.
-fn code_exact(crc: u32) -> u32
+pub fn code_exact(crc: u32) -> u32
     ensures { λ r. ⌜ r ≡ codeUpTo 14 0 crc ⌝ }
 {
     if crc == 0 { 0xffff } else { 0x10000 }
@@ -44,7 +44,7 @@ fn code_single(table: &[u32], crc: u32) -> u32
 }
 
 // With at most two, from the code with at most one. A remainder above 24 bits lies in no part, and none is written out.
-fn code_double(code: u32, crc: u32) -> u32
+pub fn code_double(code: u32, crc: u32) -> u32
     requires { ⌜ code ≡ codeUpTo 14 1 crc ⌝ }
     ensures { λ r. ⌜ r ≡ codeUpTo 14 2 crc ⌝ }
 {
@@ -95,7 +95,7 @@ pub fn up_to_in(level: u32, table: &[u32], crcs: &[u32], codes: &mut [u32])
 }
 
 // What clears 7 bytes, from at most one position that clears 14: 7 zero bytes in front change no remainder, and move each position by 56.
-fn code_short(code: u32) -> u32
+pub fn code_short(code: u32) -> u32
     ensures { λ r. ⌜ r ≡ shortCode code ⌝ }
 {
     if code >= 0xffff {
@@ -114,4 +114,17 @@ pub fn shorten(codes: &mut [u32])
     for i in 0..codes.len() {
         codes[i] = code_short(codes[i]);
     }
+}
+
+// As many as the level says, but no more than one, or than two.
+pub fn at_most_one(level: u32) -> u32
+    ensures { λ r. ⌜ r ≡ min level 1 ⌝ }
+{
+    if level > 1 { 1 } else { level }
+}
+
+pub fn at_most_two(level: u32) -> u32
+    ensures { λ r. ⌜ r ≡ min level 2 ⌝ }
+{
+    if level > 2 { 2 } else { level }
 }

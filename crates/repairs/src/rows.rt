@@ -1,11 +1,12 @@
 // The same for many remainders at once, as codes. A constant is written out at the start of the function that lends it: so the table of
 // single errors has its own, and is lent once for all of them.
+use crate::codes::at_most_one;
 use crate::codes::exact;
 use crate::codes::shorten;
 use crate::codes::up_to_in;
 use crate::tables::SINGLE;
 ghost use mathlib.Core.Path.{_≡_};
-ghost use Prim.Native.Nat.{_≤_, min};
+ghost use Prim.Native.Nat.{_≤_};
 ghost use lib.ListN.{length};
 ghost use Rattle.repairs.specs.Codes.{codesUpTo, codesUpToInto};
 
@@ -27,13 +28,6 @@ fn find_codes(level: u32, crcs: &[u32], codes: &mut [u32])
         return;
     }
     up_to(level, crcs, codes);
-}
-
-// As many as the level says, but no more than one.
-fn at_most_one(level: u32) -> u32
-    ensures { λ r. ⌜ r ≡ min level 1 ⌝ }
-{
-    if level > 1 { 1 } else { level }
 }
 
 // For each remainder of 14 bytes the fewest positions, at most `level`, as a code. Refused: 3 where there are not as many codes as

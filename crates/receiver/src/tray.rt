@@ -304,8 +304,8 @@ fn fill_lent(
     requires { ⌜ (n ≤ 64) × (length (now samples) ≡ 2310 * n) × (length (now indices) ≡ n) × (length (now messages) ≡ bytesIn (kindsOf both) * n) × (length (now words) ≡ wordsIn (kindsOf both) * n) × (length (now floats) ≡ floatsIn (kindsOf both) * n) ⌝ }
     ensures { λ _. ⌜ (now (messages .exit) ≡ rowsOf (trayRow messageOf (kindsOf both) (now (samples .entry)) s (now (indices .entry))) n) × (now (words .exit) ≡ rowsOf (trayRow resultOf (kindsOf both) (now (samples .entry)) s (now (indices .entry))) n) × (now (floats .exit) ≡ rowsOf (trayRow numbersOf (kindsOf both) (now (samples .entry)) s (now (indices .entry))) n) ⌝ }
 {
-    let mut displacements = [0u8; 2176];
-    let mut owners = [0u16; 8448];
+    let mut displacements = [0u8; 2688];
+    let mut owners = [0u16; 8704];
     let mut sums = [0.0f32; 2304];
     write_hash(&mut displacements, &mut owners);
     fill(

@@ -1,12 +1,13 @@
 -- Positions that are named, and checked by dividing.
 --     raised, pattern-raised     the remainder of one position: its byte divided, and zero bytes behind it; all 112 are computed
+--     pattern-outside            that of a position which is not there
 --     cleared-one, cleared-two   in the code's own words
 --     named-right                positions that clear a remainder are what is found
 --     code-high                  nothing clears what has more than 24 bits
 --     short-named                of 7 bytes
 -- Assumes nothing.
 use mathlib.Core.Path.{_≡_, refl, sym, ap, ap₂, _∙_}
-use mathlib.Core.Bool.{Bool, true, false, true≢false, _&&_}
+use mathlib.Core.Bool.{Bool, true, false, true≢false, _&&_, cond}
 use Prim.Native.Nat.{ℕ, zero, suc, _+_, _-_, _*_, _/_, _%_, _^_, _<_, _≤_, min}
 use native.Mathlib.Numerals.{add-one}
 use native.Mathlib.Omega.{arith}
@@ -45,12 +46,22 @@ pub raised-more : (n r : ℕ) {x y : ℕ} → x ≡ raised n r → y ≡ bringBy
 unfolding raised
 raised-more n r e g = g ∙ ap (λ (z : ℕ). bringByte z 0) e ∙ rw (add-one n)
 
+-- a byte with the bit of position j, and zero bytes behind it
+abbrev byteOf : ℕ → ℕ
+byteOf j = raised (13 - j / 8) (bringByte 0 (1 * 2 ^ (7 - j % 8) % 2 ^ 8))
+
 test : ℕ → Bool
-test j = eqb (raised (13 - j / 8) (bringByte 0 (1 * 2 ^ (7 - j % 8) % 2 ^ 8))) (pattern 14 (One j))
+test j = eqb (cond (ltb j 112) (byteOf j) 0) (pattern 14 (One j))
+
+holds : (j : ℕ) → j < 256 → cond (ltb j 112) (byteOf j) 0 ≡ pattern 14 (One j)
+unfolding test raised bringByte pattern repaired flip remainder
+holds j h = eqb→eq _ _ (below 256 test tt j h)
 
 pub pattern-raised : (j : ℕ) → j < 112 → raised (13 - j / 8) (bringByte 0 (1 * 2 ^ (7 - j % 8) % 2 ^ 8)) ≡ pattern 14 (One j)
-unfolding test raised bringByte pattern repaired flip remainder
-pattern-raised j h = eqb→eq _ _ (below 112 test tt j h)
+pattern-raised j h = sym (ap (λ (t : Bool). cond t (byteOf j) 0) (lt-ltb j 112 h)) ∙ holds j (omega arith)
+
+pub pattern-outside : (j : ℕ) → 112 ≤ j → j < 256 → 0 ≡ pattern 14 (One j)
+pattern-outside j h l = sym (ap (λ (t : Bool). cond t (byteOf j) 0) (le-ltb j 112 h)) ∙ holds j l
 
 -- ---- what clears
 

@@ -19,11 +19,14 @@ ghost use Rattle.annex10.specs.Repair.{pattern};
 ghost use Rattle.repairs.specs.Codes.{codeUpTo};
 ghost use Rattle.repairs.specs.Inner.{clearedBy};
 
-// The remainder of a message in which this bit alone is set: its byte is divided, and zeros behind it.
-fn pattern_of(position: u8) -> u32
-    requires { ⌜ position < 112 ⌝ }
+// The remainder of a message of 14 bytes in which this bit alone is set: its byte is divided, and zeros behind it. A position that is not
+// there sets none.
+pub fn pattern_of(position: u8) -> u32
     ensures { λ r. ⌜ r ≡ pattern 14 (One position) ⌝ }
 {
+    if position >= 112 {
+        return 0;
+    }
     let mut crc = bring_byte(0, 1 << (7 - position % 8));
     for _ in 0..13 - position / 8 {
         crc = bring_byte(crc, 0);

@@ -6,3 +6,4 @@ pub mod Owned
 pub mod Picking
 pub mod Asking
 pub mod Lent
+pub mod Naming

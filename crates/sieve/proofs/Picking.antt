@@ -6,7 +6,8 @@
 --     through-within          the places that were let through are below their bound
 --     all-kept, none-kept     what is kept are the places that so many repairs can clear
 --     level-zero, into-done   the answer
---     bytes-few, most-few, at-most-short, at-most-long, at-most-some, told-short, told-long   the two kinds
+--     bytes-few, most-few, at-most-short, at-most-long, at-most-some, told-short, told-long, told-lent   the two kinds
+--     lent-short, lent-long, code-same, code-zero   one code
 -- Assumes nothing.
 use mathlib.Core.Path.{_≡_, refl, sym, ap, ap₂, _∙_, subst}
 use mathlib.Core.Bool.{Bool, true, false, true≢false, cond, _||_}
@@ -21,6 +22,7 @@ use lib.ListN.{length, getD, set, take, length-set, length-append}
 use lib.Seq.{getD-set-same, getD-set-other, getD-take, length-take-le, take-at, take-suc, append-snoc}
 use Rattle.lists.specs.Bits.{asBit}
 use Rattle.lists.proofs.Table.{length-tabulate, getD-tabulate}
+use Rattle.annex10.proofs.UpTo.{up-to-zero}
 use Rattle.repairs.specs.Codes.{codeUpTo, codesUpTo, codesUpToInto}
 use Rattle.scan.specs.declared.list.Listed.{Listed}
 use Rattle.scan.specs.Sieve.{kept, laneOf, onto}
@@ -29,7 +31,7 @@ use Rattle.sieve.specs.declared.hash.Shape.{Shape}
 use Rattle.sieve.specs.Repairable.{repairable, repairableAt, repairablePlaces, codePairs, repairableIn, repairableInto}
 use Rattle.sieve.specs.Hash.{asks}
 use Rattle.sieve.specs.Inner.{bytesOf, mostOf, letIn, Owners, Within, Gathered, Sifted, taken, picked, pickedCodes, keptIn}
-use Rattle.sieve.proofs.Clears.{coded}
+use Rattle.sieve.proofs.Clears.{coded, apart}
 use Rattle.sieve.proofs.Listing.{among, among-snoc, among-kept, onto-none, onto-more}
 use Rattle.sieve.proofs.Owning.{asks-same, let-places}
 
@@ -334,3 +336,25 @@ module _ (short : Bool) (level n r : ℕ) (asked told t rest : List ℕ) (h : le
       → take n (t ++ rest) ≡ codesUpTo (bytesOf short) level (take n asked)
   unfolding bytesOf mostOf
   told-long e q = let l : level ≤ 2 = rw e at h in rw e (told-part 14 2 level n r asked told t rest l l a b q)
+
+  pub told-lent : t ≡ codesUpTo (bytesOf short) level (take n asked) → take n (t ++ rest) ≡ codesUpTo (bytesOf short) level (take n asked)
+  unfolding codesUpTo
+  told-lent q = take-at t rest n (ap length q ∙ length-tabulate (length (take n asked)) _ ∙ sym (part-length n asked a)) ∙ q
+
+-- ---- one code
+
+module _ (short : Bool) (level : ℕ) (h : level ≤ mostOf short) (r crc : ℕ) where
+  pub lent-short : short ≡ true → r ≡ codeUpTo 7 (min level 1) crc → r ≡ codeUpTo (bytesOf short) level crc
+  unfolding bytesOf mostOf
+  lent-short e q = let l : level ≤ 1 = rw e at h in let m : min level 1 ≡ level = omega arith in rw e (q ∙ ap (λ (n : ℕ). codeUpTo 7 n crc) m)
+
+  pub lent-long : short ≡ false → r ≡ codeUpTo 14 (min level 2) crc → r ≡ codeUpTo (bytesOf short) level crc
+  unfolding bytesOf mostOf
+  lent-long e q = let l : level ≤ 2 = rw e at h in let m : min level 2 ≡ level = omega arith in rw e (q ∙ ap (λ (n : ℕ). codeUpTo 14 n crc) m)
+
+pub code-same : (n level : ℕ) {c last crc : ℕ} → c ≡ codeUpTo n level last → crc ≡ last → c ≡ codeUpTo n level crc
+code-same n level e q = rw (q, e)
+
+pub code-zero : (short : Bool) (level : ℕ) → 65535 ≡ codeUpTo (bytesOf short) level 0
+unfolding codeUpTo
+code-zero short level = rw (up-to-zero (bytesOf short) (apart (bytesOf short) (bytes-few short)) level)

@@ -1,14 +1,14 @@
 // From the remainders to the places that so many repairs can clear. A constant table is written out at the start of the function that
-// lends it: so each level's hash has its own, and none of them is alive when the sorted tables are asked.
+// lends it: so each level's hash has its own, and none of them is alive when the sorted tables are asked. A hash that the caller lends is.
 use crate::hash::Shape;
 use crate::keep::keep;
-use crate::keep::tell;
 use crate::list::gather;
 use crate::list::list_in;
 use crate::own::two_displacements;
 use crate::own::two_owners;
 use crate::tables::ONE_DISPLACEMENTS;
 use crate::tables::ONE_OWNERS;
+use crate::tell::tell;
 use scan::list::Listed;
 ghost use mathlib.Core.Path.{_≡_};
 ghost use mathlib.Core.Bool.{true};
@@ -166,7 +166,7 @@ fn sift(
     sift_two(m, crcs, others, through, asked)
 }
 
-// The sorted tables are asked once for all that were let through. What they tell has room for the places of either kind.
+// What clears is asked once for all that were let through. What is told has room for the places of either kind.
 pub fn find(
     short: bool,
     level: u32,
@@ -200,7 +200,15 @@ pub fn find(
         };
     }
     let mut told = [0u32; 1392];
-    tell(short, level, asked, 2 * count, &mut told);
+    tell(
+        short,
+        level,
+        displacements,
+        owners,
+        asked,
+        2 * count,
+        &mut told,
+    );
     Listed {
         number: 0,
         count: keep(through, &told, count, list, codes),

@@ -1,24 +1,9 @@
 // What came of what was asked: the places that are kept, with their codes.
-use repairs::rows::bit_errors_from_crc24s;
-use repairs::rows::bit_errors_from_crc24s_short;
 ghost use mathlib.Core.Path.{_≡_};
 ghost use Prim.Native.Nat.{_+_, _*_, _<_, _≤_};
-ghost use lib.ListN.{length, take};
+ghost use lib.ListN.{length};
 ghost use Rattle.lists.specs.Bits.{asBit};
-ghost use Rattle.repairs.specs.Codes.{codesUpTo};
-ghost use Rattle.sieve.specs.Inner.{bytesOf, mostOf, taken, keptIn};
-
-// The codes of the first n.
-pub fn tell(short: bool, level: u32, asked: &[u32], n: usize, told: &mut [u32])
-    requires { ⌜ (level ≤ mostOf short) × (n ≤ length (now asked)) × (n ≤ length (now told)) ⌝ }
-    ensures { λ _. ⌜ take n (now (told .exit)) ≡ codesUpTo (bytesOf short) level (take n (now (asked .entry))) ⌝ }
-{
-    if short {
-        bit_errors_from_crc24s_short(level, &asked[..n], &mut told[..n]);
-        return;
-    }
-    bit_errors_from_crc24s(level, &asked[..n], &mut told[..n]);
-}
+ghost use Rattle.sieve.specs.Inner.{taken, keptIn};
 
 // Whether a code of at least one position came for a place.
 fn is_taken(told: &[u32], m: usize) -> usize

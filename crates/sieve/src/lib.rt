@@ -1,11 +1,14 @@
-// The places whose remainders at least one repair and at most so many can clear. A hash lets them through, and the sorted tables are
-// asked for those alone. A caller may lend the hash; else it is written out at each call.
+// The places whose remainders at least one repair and at most so many can clear. A hash lets them through, and what clears is asked for
+// those alone. A caller may lend the hash: then its slots name what may clear, and no table is written out. Else it is written out at each
+// call, and so are the sorted tables that are asked.
 mod find;
 pub mod hash;
 mod keep;
 mod list;
+mod named;
 mod own;
 mod tables;
+mod tell;
 
 use crate::find::find;
 use scan::list::Listed;

@@ -4,7 +4,7 @@ use Prim.Native.Nat.{ℕ, _-_, _*_, _/_, _%_, _^_, _≤_}
 use native.Mathlib.Omega.{arith}
 use borrow.Author.Needs.{needs}
 use Rattle.annex10.specs.Remainder.{bringByte}
-use Rattle.repairs.proofs.Naming.{raised, raised-none, raised-more, pattern-raised}
+use Rattle.repairs.proofs.Naming.{raised, raised-none, raised-more, pattern-raised, pattern-outside}
 use Rattle.repairs.proofs.named.pattern_of.Statement.{statement}
 use Rattle.repairs.proofs.named.pattern_of.Tie as tie
 
@@ -14,6 +14,9 @@ Inv-loop position crc₀ counter₀ end crc counter =
 
 abbrev μ-loop : tie.MeasureT-loop
 μ-loop position crc₀ counter₀ end crc counter = 13 - position / 8 - counter
+
+returns : tie.Need-returns Inv-loop μ-loop
+returns c = pattern-outside _ (c .if1 .taken) (c .before .fits .position .fits)
 
 sub-bring-byte : tie.Need-sub-bring-byte Inv-loop μ-loop
 sub-bring-byte c = search needs
@@ -42,12 +45,12 @@ loop-less c = search needs
 loop-again : tie.Need-loop-again Inv-loop μ-loop
 loop-again c = (omega arith, raised-more _ _ (c .before .before .loop .inv .1) (c .bring-byte2 .ensures))
 
-returns : tie.Need-returns Inv-loop μ-loop
-returns c =
+returns-2 : tie.Need-returns-2 Inv-loop μ-loop
+returns-2 c =
     let l = c .before .loop in
-    let s = c .before .before .before in
-    let e : l .counter ≡ 13 - s .args .position / 8 = omega (arith, l .inv .0, c .loop-test .left) in
-    l .inv .1 ∙ rw e (pattern-raised (s .args .position) (s .pre))
+    let a = c .before .before .before .before .args in
+    let e : l .counter ≡ 13 - a .position / 8 = omega (arith, l .inv .0, c .loop-test .left) in
+    l .inv .1 ∙ rw e (pattern-raised (a .position) (omega (arith, c .before .before .before .if1 .left)))
 
 pub pattern-of-spec : {M : Type 1} → statement M
 pattern-of-spec =
@@ -55,6 +58,7 @@ pattern-of-spec =
     (tie.spec
     Inv-loop
     μ-loop
+    returns
     sub-bring-byte
     shl-bring-byte
     bring-byte-requires
@@ -64,4 +68,4 @@ pattern-of-spec =
     add-counter
     loop-less
     loop-again
-    returns)
+    returns-2)

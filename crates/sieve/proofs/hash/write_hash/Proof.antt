@@ -4,7 +4,7 @@ use borrow.Author.Tests.{eq-eqb, ne-eqb}
 use mathlib.Core.Path.{sym, _∙_}
 use native.Mathlib.Omega.{arith}
 use denote.Ref.{now}
-use Rattle.sieve.specs.Tables.{oneDisplacements, oneOwners}
+use Rattle.sieve.specs.Tables.{oneDisplacements, oneOwners, onePositions}
 use Rattle.sieve.specs.Hash.{hashInto}
 use Rattle.sieve.proofs.Picking.{part-length}
 use Rattle.sieve.proofs.Asking.{written}
@@ -49,6 +49,21 @@ part-put-displacements-end c = search needs
 put-displacements-requires-2 : tie.Need-put-displacements-requires-2
 put-displacements-requires-2 c κs = search needs
 
+slice-aggregate-put-displacements-4 : tie.Need-slice-aggregate-put-displacements-4
+slice-aggregate-put-displacements-4 c = search needs
+
+sub-put-displacements-2 : tie.Need-sub-put-displacements-2
+sub-put-displacements-2 c = search needs
+
+part-put-displacements-start-2 : tie.Need-part-put-displacements-start-2
+part-put-displacements-start-2 c = search needs
+
+part-put-displacements-end-2 : tie.Need-part-put-displacements-end-2
+part-put-displacements-end-2 c = search needs
+
+put-displacements-requires-3 : tie.Need-put-displacements-requires-3
+put-displacements-requires-3 c κs = search needs
+
 slice-aggregate-put-owners : tie.Need-slice-aggregate-put-owners
 slice-aggregate-put-owners c = search needs
 
@@ -56,10 +71,10 @@ slice-relend-prefix-put-owners : tie.Need-slice-relend-prefix-put-owners
 slice-relend-prefix-put-owners c = search needs
 
 slice-aggregate-put-owners-2 : tie.Need-slice-aggregate-put-owners-2
-slice-aggregate-put-owners-2 c = part-length 256 (now (c .before .before .before .before .before .before .before .before .before .before .before .before .before .before .before .before .before .args .owners)) (omega (arith, c .before .before .before .before .before .before .before .before .before .before .before .before .before .if2 .left))
+slice-aggregate-put-owners-2 c = part-length 512 (now (c .before .before .before .before .before .before .before .before .before .before .before .before .before .before .before .before .before .before .before .before .before .before .args .owners)) (omega (arith, c .before .before .before .before .before .before .before .before .before .before .before .before .before .before .before .before .before .before .if2 .left))
 
 put-owners-requires : tie.Need-put-owners-requires
-put-owners-requires c κs = sym (part-length 256 (now (c .before .before .before .before .before .before .before .before .before .before .before .before .before .before .before .before .before .args .owners)) (omega (arith, c .before .before .before .before .before .before .before .before .before .before .before .before .before .if2 .left)))
+put-owners-requires c κs = sym (part-length 512 (now (c .before .before .before .before .before .before .before .before .before .before .before .before .before .before .before .before .before .before .before .before .before .before .args .owners)) (omega (arith, c .before .before .before .before .before .before .before .before .before .before .before .before .before .before .before .before .before .before .if2 .left)))
 
 two-owners-requires : tie.Need-two-owners-requires
 two-owners-requires c κs = search needs
@@ -86,12 +101,14 @@ same-length-2 : tie.Need-same-length-2
 same-length-2 c = search needs
 
 returns-3 : tie.Need-returns-3
-unfolding oneDisplacements oneOwners
+unfolding oneDisplacements oneOwners onePositions
 returns-3 c =
-    let a = c .before .before .before .before .before .before .before .before .before .before .before .before .before .before .before .before .before .before .before .before .before .before .before .before .before .before .args in
-    written (now (a .displacements)) (now (a .owners)) _ _ _ _ (c .before .before .before .before .before .before .before .before .before .before .before .before .before .before .before .before .before .before .before .before .before .before .before .if1 .left) (c .before .before .before .before .before .before .before .before .before .before .before .before .before .before .before .before .before .before .before .before .before .before .if2 .left)
-    (c .before .before .before .before .before .before .before .before .before .before .before .before .before .before .before .before .before .before .before .put-displacements .ensures, c .before .before .before .before .before .before .before .before .put-owners .ensures)
-    (c .before .before .before .before .before .before .before .before .before .before .before .before .before .put-displacements2 .ensures ∙ c .before .before .before .before .before .before .before .before .before .before .before .before .before .before .before .before .two-displacements .ensures, c .before .before .put-owners2 .ensures ∙ c .before .before .before .before .before .two-owners .ensures)
+    let a = c .before .before .before .before .before .before .before .before .before .before .before .before .before .before .before .before .before .before .before .before .before .before .before .before .before .before .before .before .before .before .before .args in
+    written (now (a .displacements)) (now (a .owners)) _ _ _ _ _ (c .before .before .before .before .before .before .before .before .before .before .before .before .before .before .before .before .before .before .before .before .before .before .before .before .before .before .before .before .if1 .left) (c .before .before .before .before .before .before .before .before .before .before .before .before .before .before .before .before .before .before .before .before .before .before .before .before .before .before .before .if2 .left) (
+      c .before .before .before .before .before .before .before .before .before .before .before .before .before .before .before .before .before .before .before .before .before .before .before .before .put-displacements .ensures,
+      c .before .before .before .before .before .before .before .before .before .before .before .before .before .before .before .before .before .before .put-displacements2 .ensures ∙ c .before .before .before .before .before .before .before .before .before .before .before .before .before .before .before .before .before .before .before .before .before .two-displacements .ensures,
+      c .before .before .before .before .before .before .before .before .before .before .before .before .before .put-displacements3 .ensures,
+    ) (c .before .before .before .before .before .before .before .before .put-owners .ensures, c .before .before .put-owners2 .ensures ∙ c .before .before .before .before .before .two-owners .ensures)
 
 pub write-hash-spec : {M : Type 1} → statement M
 write-hash-spec =
@@ -109,6 +126,11 @@ write-hash-spec =
     part-put-displacements-start
     part-put-displacements-end
     put-displacements-requires-2
+    slice-aggregate-put-displacements-4
+    sub-put-displacements-2
+    part-put-displacements-start-2
+    part-put-displacements-end-2
+    put-displacements-requires-3
     slice-aggregate-put-owners
     slice-relend-prefix-put-owners
     slice-aggregate-put-owners-2

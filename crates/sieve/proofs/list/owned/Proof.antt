@@ -35,10 +35,10 @@ cast-if1-2 c =
     omega (arith, c .shared-slice-known2 .given (slotOf (a .shape) (now (a .displacements)) (a .crc)))
 
 returns : tie.Need-returns
-returns c = lets-hit _ _ _ (c .before .before .before .before .before .before .before .args .crc) (c .if1 .taken)
+returns c = lets-hit _ _ _ (c .before .before .before .before .before .before .before .before .args .crc) (c .if1 .taken)
 
 returns-2 : tie.Need-returns-2
-returns-2 c = lets-miss _ _ _ (c .before .before .before .before .before .before .before .args .crc) (c .if1 .left)
+returns-2 c = lets-miss _ _ _ (c .before .before .before .before .before .before .before .before .args .crc) (c .if1 .left)
 
 pub owned-spec : {M : Type 1} → statement M
 owned-spec =

@@ -13,7 +13,8 @@ use native.Mathlib.Omega.{arith}
 use lib.Dec.{eqb, eqb→eq}
 use lib.Bits.{bitXor, bitAnd, xor-lt, and-mask, mask-lt}
 use Rattle.lists.proofs.Test.{below}
-use Rattle.annex10.specs.Remainder.{remainder, bringByte}
+use Rattle.annex10.specs.Remainder.{remainder}
+use Rattle.annex10.specs.Bytes.{bringByte}
 use Rattle.annex10.proofs.Linear.{remainder-lt}
 use Rattle.annex10.proofs.Bytewise.{remainder-table}
 

@@ -1,4 +1,5 @@
 pub mod Remainder
+pub mod Bytes
 pub mod Division
 pub mod Flip
 pub mod Header

@@ -37,7 +37,3 @@ bits (x ∷ xs) = bitsOf 8 x ++ bits xs
 -- THE REMAINDER, of a string of any length: 24 zeros after it are the string times x^24
 unfoldable pub remainder : List ℕ → ℕ
 remainder xs = divide 0 (bits xs ++ replicate 24 0)
-
--- eight steps at once: what is below x^16 moves on by a byte, and what passes x^24 is divided together with the byte that is brought down
-unfoldable pub bringByte : ℕ → ℕ → ℕ
-bringByte r b = bitXor (r % 2 ^ 16 * 2 ^ 8) (remainder (bitXor (r / 2 ^ 16 % 2 ^ 8) b ∷ []))

@@ -2,7 +2,8 @@
 use std::num::wrapping_sub_u32;
 ghost use mathlib.Core.Path.{_≡_};
 ghost use mathlib.Core.List.{[], _∷_};
-ghost use Rattle.annex10.specs.Remainder.{remainder, bringByte};
+ghost use Rattle.annex10.specs.Remainder.{remainder};
+ghost use Rattle.annex10.specs.Bytes.{bringByte};
 
 // The remainder of one byte. The generator's terms x^23 to x^12 stand in a row: times x + 1 they are two, so what a byte adds is a few
 // shifts of the byte and of the byte times x + 1.

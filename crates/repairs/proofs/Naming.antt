@@ -19,7 +19,8 @@ use Rattle.annex10.specs.declared.Repairs.{Repairs}
 use Rattle.annex10.specs.declared.Repairs.the-variants.{None, One, Two}
 use Rattle.annex10.specs.declared.Found.{Found}
 use Rattle.annex10.specs.declared.Found.the-variants.{At, Nothing}
-use Rattle.annex10.specs.Remainder.{remainder, bringByte}
+use Rattle.annex10.specs.Remainder.{remainder}
+use Rattle.annex10.specs.Bytes.{bringByte}
 use Rattle.annex10.specs.Flip.{flip}
 use Rattle.annex10.specs.Repair.{Proper, count, repaired, pattern, clearing}
 use Rattle.annex10.specs.Any.{clearingUpTo}

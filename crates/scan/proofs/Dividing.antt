@@ -18,7 +18,8 @@ use Rattle.lists.specs.From.{from, tabulate}
 use Rattle.lists.specs.Bits.{value, packed}
 use Rattle.lists.proofs.Table.{Done}
 use Rattle.lists.proofs.Members.{from-append}
-use Rattle.annex10.specs.Remainder.{remainder, bringByte}
+use Rattle.annex10.specs.Remainder.{remainder}
+use Rattle.annex10.specs.Bytes.{bringByte}
 use Rattle.annex10.proofs.Shifts.{bring-more}
 use Rattle.scan.specs.Flat.{messageFrom, crcIn}
 use Rattle.scan.specs.Inner.{Digits, byteIn}

@@ -3,7 +3,7 @@ use mathlib.Core.Path.{_≡_, refl, sym, ap, _∙_}
 use Prim.Native.Nat.{ℕ, _-_, _*_, _/_, _%_, _^_, _≤_}
 use native.Mathlib.Omega.{arith}
 use borrow.Author.Needs.{needs}
-use Rattle.annex10.specs.Remainder.{bringByte}
+use Rattle.annex10.specs.Bytes.{bringByte}
 use Rattle.repairs.proofs.Naming.{raised, raised-none, raised-more, pattern-raised, pattern-outside}
 use Rattle.repairs.proofs.named.pattern_of.Statement.{statement}
 use Rattle.repairs.proofs.named.pattern_of.Tie as tie

@@ -11,7 +11,7 @@ use Prim.Native.Nat.{ℕ, _+_, _-_, _*_, _/_, _%_, _^_, _<_}
 use native.Mathlib.Nat.{mod-eq-of-lt}
 use native.Mathlib.Omega.{arith}
 use lib.Dec.{eqb, eqb→eq}
-use lib.Bits.{bitXor, bitAnd, xor-lt, and-mask, mask-lt}
+use lib.Bits.{bitXor, bitAnd, and-mask, mask-lt}
 use Rattle.lists.proofs.Test.{below}
 use Rattle.annex10.specs.Remainder.{remainder}
 use Rattle.annex10.specs.Bytes.{bringByte}

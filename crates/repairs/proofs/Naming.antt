@@ -6,7 +6,7 @@
 --     code-high                  nothing clears what has more than 24 bits
 --     short-named                of 7 bytes
 -- Assumes nothing.
-use mathlib.Core.Path.{_≡_, refl, sym, ap, ap₂, _∙_}
+use mathlib.Core.Path.{_≡_, refl, sym, ap, _∙_}
 use mathlib.Core.Bool.{Bool, true, false, true≢false, _&&_, cond}
 use Prim.Native.Nat.{ℕ, zero, suc, _+_, _-_, _*_, _/_, _%_, _^_, _<_, _≤_, min}
 use native.Mathlib.Numerals.{add-one}
@@ -22,7 +22,7 @@ use Rattle.annex10.specs.declared.Found.the-variants.{At, Nothing}
 use Rattle.annex10.specs.Remainder.{remainder}
 use Rattle.annex10.specs.Bytes.{bringByte}
 use Rattle.annex10.specs.Flip.{flip}
-use Rattle.annex10.specs.Repair.{Proper, count, repaired, pattern, clearing}
+use Rattle.annex10.specs.Repair.{Proper, count, repaired, pattern}
 use Rattle.annex10.specs.Any.{clearingUpTo}
 use Rattle.annex10.specs.Codes.{codeOf}
 use Rattle.annex10.proofs.Repairing.{not-there, looked-up, pattern-two}

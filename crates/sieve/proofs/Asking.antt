@@ -5,7 +5,7 @@
 --     getD-asks                        of the remainder at a place
 --     sifted-lent, lent-one, lent-two, lent-none   what the parts give
 --     sieved-not, sieved-as, sieved-done           the answer
---     written                          both parts in lent memory
+--     written                          all parts in lent memory
 -- Assumes nothing.
 use mathlib.Core.Path.{_≡_, refl, sym, ap, _∙_}
 use mathlib.Core.Bool.{Bool, true, false, true≢false, cond, _&&_, _||_}

@@ -29,7 +29,8 @@ fn name_byte(displacements: &[u8], owners: &[u16], crc: u32) -> u8
     (owners[512 + slot] >> 12) as u8
 }
 
-// Each of its eight positions is taken away in turn, and the rest is asked for a first one.
+// Each of its eight positions is taken away in turn, and the rest is asked for a first one. The pattern of the position before is x times
+// that of the next.
 fn name_two(displacements: &[u8], owners: &[u16], crc: u32) -> Repairs
     requires { ⌜ (length (now displacements) ≡ 2688) × (length (now owners) ≡ 8704) ⌝ }
 {

@@ -1,6 +1,6 @@
 -- `repairs::named::pattern_of` meets its contract. The loop: so many zero bytes are behind the first. Assumes nothing.
-use mathlib.Core.Path.{_≡_, refl, sym, ap, _∙_}
-use Prim.Native.Nat.{ℕ, _-_, _*_, _/_, _%_, _^_, _≤_}
+use mathlib.Core.Path.{_≡_, _∙_}
+use Prim.Native.Nat.{_-_, _*_, _/_, _%_, _^_, _≤_}
 use native.Mathlib.Omega.{arith}
 use borrow.Author.Needs.{needs}
 use Rattle.annex10.specs.Bytes.{bringByte}

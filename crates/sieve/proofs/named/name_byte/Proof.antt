@@ -1,6 +1,5 @@
 -- `sieve::named::name_byte` meets its contract. Assumes nothing.
 use native.Mathlib.Omega.{arith}
-use borrow.Author.Needs.{needs}
 use denote.Ref.{now}
 use Prim.Native.Nat.{_+_, _/_, _^_}
 use lib.Bits.{bitXor, bitAnd, mask-lt}

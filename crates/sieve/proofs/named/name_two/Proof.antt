@@ -1,6 +1,5 @@
 -- `sieve::named::name_two` meets its contract. Assumes nothing.
 use Prim.Native.Nat.{_-_, _≤_}
-use native.Mathlib.Omega.{arith}
 use borrow.Author.Needs.{needs}
 use Rattle.sieve.proofs.named.name_two.Statement.{statement}
 use Rattle.sieve.proofs.named.name_two.Tie as tie

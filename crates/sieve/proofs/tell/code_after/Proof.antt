@@ -1,5 +1,4 @@
 -- `sieve::tell::code_after` meets its contract. Assumes nothing.
-use mathlib.Core.Path.{sym, ap, _∙_}
 use borrow.Author.Needs.{needs}
 use Rattle.sieve.proofs.Picking.{code-same}
 use Rattle.sieve.proofs.tell.code_after.Statement.{statement}

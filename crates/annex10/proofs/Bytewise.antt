@@ -1,6 +1,6 @@
 -- The remainder a byte at a time, for strings of any length.
 --     remainder-more    one byte more: eight places on, and the byte's own remainder
---     remainder-table   the same, with all that passes x^24 looked up at once: what a table of 256 remainders needs
+--     remainder-next    the same, with the eight coefficients that pass x^24 divided together with the byte
 -- Assumes nothing.
 use mathlib.Core.Path.{_≡_, refl, sym, ap, ap₂, _∙_}
 use mathlib.Core.Bool.{Bool}
@@ -85,10 +85,9 @@ shift-byte r hr =
     (shift-small 8 l (omega arith))
     ∙ xor-comm (remainder (h ∷ [])) (l * 2 ^ 8)
 
--- the byte law: what a table of 256 remainders needs
-pub remainder-table : (xs : List ℕ) (b : ℕ)
+pub remainder-next : (xs : List ℕ) (b : ℕ)
     → remainder (xs ++ (b ∷ [])) ≡ bitXor (remainder xs % 2 ^ 16 * 2 ^ 8) (remainder (bitXor (remainder xs / 2 ^ 16) b ∷ []))
-remainder-table xs b =
+remainder-next xs b =
     let r = remainder xs in
     remainder-more xs b
     ∙ ap (λ (x : ℕ). bitXor x (remainder (b ∷ []))) (shift-byte r (remainder-lt xs))

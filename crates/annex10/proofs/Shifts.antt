@@ -2,21 +2,26 @@
 --     shifts-are     the shifts of a byte are its remainder: all 256 are computed
 --     byte-lt        the byte that is divided
 --     brought        what the code computes
---     bring-more     WHAT IT IS FOR: from the remainder of a string to that of the string and one byte more
+--     bring-more     from the remainder of a string to that of the string and one byte more
+--     one-byte       WHAT IT IS FOR
+--     bring-next     the same in a loop over a string
 -- Assumes nothing.
-use mathlib.Core.Path.{_≡_, sym, ap, ap₂, _∙_}
+use mathlib.Core.Path.{_≡_, refl, sym, ap, ap₂, _∙_}
 use mathlib.Core.Bool.{Bool}
 use mathlib.Core.List.{List, [], _∷_, _++_}
 use Prim.Native.Nat.{ℕ, _+_, _-_, _*_, _/_, _%_, _^_, _<_}
 use native.Mathlib.Nat.{mod-eq-of-lt}
+use native.Mathlib.Numerals.{add-one}
 use native.Mathlib.Omega.{arith}
 use lib.Dec.{eqb, eqb→eq}
+use lib.ListN.{take, getD, length}
+use lib.Seq.{take-suc}
 use lib.Bits.{bitXor, bitAnd, and-mask, mask-lt}
 use Rattle.lists.proofs.Test.{below}
 use Rattle.annex10.specs.Remainder.{remainder}
-use Rattle.annex10.specs.Bytes.{bringByte}
+use Rattle.annex10.specs.Bytes.{bringByte, OneByteMore}
 use Rattle.annex10.proofs.Linear.{remainder-lt}
-use Rattle.annex10.proofs.Bytewise.{remainder-table}
+use Rattle.annex10.proofs.Bytewise.{remainder-next}
 
 -- as the code has it; m is all bits of a word where the byte is odd, or none
 abbrev shifts : ℕ → ℕ → ℕ
@@ -58,4 +63,11 @@ bring-more xs crc b e =
     let q : crc / 2 ^ 16 % 2 ^ 8 ≡ crc / 2 ^ 16 = omega arith in
     ap (λ (x : ℕ). bitXor (crc % 2 ^ 16 * 2 ^ 8) (remainder (bitXor x b ∷ []))) q
     ∙ ap (λ (r : ℕ). bitXor (r % 2 ^ 16 * 2 ^ 8) (remainder (bitXor (r / 2 ^ 16) b ∷ []))) e
-    ∙ sym (remainder-table xs b)
+    ∙ sym (remainder-next xs b)
+
+pub one-byte : OneByteMore
+one-byte = record { step = λ xs b. bring-more xs (remainder xs) b refl }
+
+pub bring-next : (xs : List ℕ) (i crc : ℕ) → i < length xs → crc ≡ remainder (take i xs) → bringByte crc (getD xs i 0) ≡ remainder (take (i + 1) xs)
+bring-next xs i crc l e =
+    bring-more (take i xs) crc (getD xs i 0) e ∙ ap remainder (sym (take-suc xs i 0 l) ∙ ap (λ (n : ℕ). take n xs) (sym (add-one i)))

@@ -1,5 +1,3 @@
-pub mod Turn
-pub mod Rule
 pub mod Codes
 pub mod Head
 pub mod Text

@@ -1,18 +1,12 @@
 -- What private functions compute: no public contract cites it.
 -- Assumes nothing.
-use mathlib.Core.Path.{_≡_}
 use mathlib.Core.Bool.{Bool, cond, _&&_, _||_}
-use mathlib.Core.List.{List, [], _∷_}
-use Prim.Native.Nat.{ℕ, _-_, _^_, _<_}
+use mathlib.Core.List.{List}
+use Prim.Native.Nat.{ℕ, _-_, _^_}
 use lib.Bits.{bitXor}
 use lib.Dec.{eqb, leb, ltb}
 use lib.ListN.{getD}
-use Rattle.annex10.specs.Remainder.{remainder}
 use Rattle.mode_s.specs.Avr.{avrText}
-
--- the rule of a table of bytes: each entry is the remainder of its place
-pub record ByteTable (t : List ℕ) : Type 0 where
-  pub entry : (i : ℕ) → i < 256 → getD t i 0 ≡ remainder (i ∷ [])
 
 -- 0, or low to high
 unfoldable pub zeroOrWithin : ℕ → ℕ → ℕ → Bool

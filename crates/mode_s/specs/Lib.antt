@@ -3,5 +3,4 @@ pub mod Counted
 pub mod Corrected
 pub mod Avr
 pub mod Message
-pub mod Step
 pub mod Inner

@@ -1,6 +1,5 @@
 // Mode S: the remainder of a message, its header, its repair, and its text.
 pub mod avr;
-pub mod bytes;
 pub mod crc;
 pub mod header;
 pub mod message;

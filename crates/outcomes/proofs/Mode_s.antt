@@ -9,7 +9,6 @@ use Rattle.mode_s.specs.Header.{validityTold}
 use Rattle.mode_s.proofs.avr.high_digit as avr-high-digit
 use Rattle.mode_s.proofs.avr.low_digit as avr-low-digit
 use Rattle.mode_s.proofs.avr.format_avr as avr-format-avr
-use Rattle.mode_s.proofs.crc.crc24_step as crc-crc24-step
 use Rattle.mode_s.proofs.crc.crc24 as crc-crc24
 use Rattle.mode_s.proofs.header.header_is_valid as header-header-is-valid
 use Rattle.mode_s.proofs.header.header_is_valid_short as header-header-is-valid-short
@@ -33,11 +32,6 @@ pub avr-format-avr-fixed : Fixed avr-format-avr.ended (answer _) (λ M 𝓤 H. a
 avr-format-avr-fixed =
     fixes avr-format-avr.ended _ (answer-set avr-format-avr.ended) refl (λ κs. refl)
     (λ κs a r e. (r, now (e .1 .0))) (λ κs a y. (y .0, (tt, (y .1, tt)))) (λ κs a r ws. refl)
-
-pub crc-crc24-step-fixed : Fixed crc-crc24-step.ended (answer _) (λ M 𝓤 H. crc-crc24-step.clauses 𝓤 H) (λ M 𝓤 H. crc-crc24-step.spec 𝓤 H)
-crc-crc24-step-fixed =
-    fixes crc-crc24-step.ended _ (answer-set crc-crc24-step.ended) refl (λ κs. refl)
-    (λ κs a r e. r) (λ κs a y. (y, (tt, (tt, (tt, tt))))) (λ κs a r ws. refl)
 
 pub crc-crc24-fixed : Fixed crc-crc24.ended (answer _) (λ M 𝓤 H. crc-crc24.clauses 𝓤 H) (λ M 𝓤 H. crc-crc24.spec 𝓤 H)
 crc-crc24-fixed =

@@ -8,6 +8,7 @@ mod recipe;
 mod rules;
 
 use kinds::Windows;
+use recipe::Random;
 use rules::Settings;
 use std::hint::black_box;
 use std::time::Instant;
@@ -108,6 +109,7 @@ unsafe extern "C" {
     decode_both!(khlongrae_decode_both);
     decode_tray!(khlongrae_tray);
     decode_tray!(khlongrae_tray_both);
+    fn khlongrae_remainder(bytes: *const u8, bytes_len: usize) -> u32;
 }
 
 /// For this machine's own processor: tools/bench has put native_ before each name.
@@ -118,6 +120,7 @@ unsafe extern "C" {
     decode_both!(native_khlongrae_decode_both);
     decode_tray!(native_khlongrae_tray);
     decode_tray!(native_khlongrae_tray_both);
+    fn native_khlongrae_remainder(bytes: *const u8, bytes_len: usize) -> u32;
 }
 
 /// Another archive of the library, where tools/bench was given one: before_ stands before each name.
@@ -125,6 +128,7 @@ unsafe extern "C" {
 #[link(name = "khlongrae_before", kind = "static")]
 unsafe extern "C" {
     decode!(before_khlongrae_decode);
+    fn before_khlongrae_remainder(bytes: *const u8, bytes_len: usize) -> u32;
     fn before_khlongrae_version() -> u32;
 }
 
@@ -219,6 +223,9 @@ const TRAYS: [&str; 4] = ["khlongrae", "tray", "khlongrae-native", "tray-native"
 const TRAYS_BOTH: [&str; 4] = ["both", "tray-both", "both-native", "tray-both-native"];
 /// The windows for them; those of both kinds have a short message too.
 const TRAY_KINDS: [&str; 5] = ["noise", "message", "one-damaged", "two-damaged", "short"];
+/// The remainder alone, and how long its strings are.
+const DIVIDERS: [&str; 4] = ["khlongrae", "khlongrae-native", "rust", "rust-native"];
+const LENGTHS: [usize; 4] = [7, 14, 64, 4096];
 
 fn decoder(who: &str, windows: &[Vec<f32>], s: Settings) -> Decoder {
     match who {
@@ -241,6 +248,21 @@ fn decoder(who: &str, windows: &[Vec<f32>], s: Settings) -> Decoder {
     }
 }
 
+/// A remainder in place of a decode: whether that of string i is 0.
+fn divider(who: &str, strings: &[Vec<u8>]) -> Decoder {
+    let divide: fn(&[u8]) -> u32 = match who {
+        "khlongrae" => |x| unsafe { khlongrae_remainder(x.as_ptr(), x.len()) },
+        "khlongrae-native" => |x| unsafe { native_khlongrae_remainder(x.as_ptr(), x.len()) },
+        #[cfg(before)]
+        "before" => |x| unsafe { before_khlongrae_remainder(x.as_ptr(), x.len()) },
+        "rust" => oracle_a::checksum,
+        "rust-native" => oracle_n::checksum,
+        _ => stop(),
+    };
+    let strings = strings.to_vec();
+    Box::new(move |i| divide(black_box(&strings[i])) == 0)
+}
+
 /// Microseconds for a window, the windows in turn, for about `micros`.
 fn time(decode: &mut Decoder, windows: usize, micros: f64) -> f64 {
     let (began, mut runs) = (Instant::now(), 0);
@@ -261,25 +283,45 @@ fn median(mut xs: Vec<f64>) -> f64 {
     xs[xs.len() / 2]
 }
 
-/// One line a kind and level: the median time of each decoder. `agrees` holds of what each finds, window by window.
+/// The median time of each decoder. `agrees` holds of what each finds, window by window.
+fn medians(mut decoders: Vec<Decoder>, windows: usize, rounds: usize, micros: f64, agrees: impl Fn(&[Vec<bool>]) -> bool) -> String {
+    let found: Vec<Vec<bool>> = decoders.iter_mut().map(|d| (0..windows).map(|i| d(i)).collect()).collect();
+    assert!(agrees(&found), "the decoders find messages in {found:?}");
+    let mut times = vec![vec![]; decoders.len()];
+    for round in 0..rounds {
+        // Each round begins with another one: where the machine is shared, others may take it away at the same turn of every round.
+        for turn in 0..decoders.len() {
+            let k = (round + turn) % decoders.len();
+            times[k].push(time(&mut decoders[k], windows, micros));
+        }
+    }
+    let medians: Vec<String> = times.into_iter().map(|t| format!("{:.4}", median(t))).collect();
+    medians.join(" ")
+}
+
+/// One line a kind and level: the median time of each decoder.
 fn table(names: &[&str], kinds: Vec<Windows>, rounds: usize, micros: f64, agrees: impl Fn(&[Vec<bool>]) -> bool) {
     for Windows { name, samples, settings } in kinds {
         for level in 0..3 {
-            let s = Settings { level, ..settings };
-            let mut decoders: Vec<Decoder> = names.iter().map(|who| decoder(who, &samples, s)).collect();
-            let found: Vec<Vec<bool>> = decoders.iter_mut().map(|d| (0..samples.len()).map(|i| d(i)).collect()).collect();
-            assert!(agrees(&found), "{name}: the decoders find messages in {found:?}");
-            let mut times = vec![vec![]; names.len()];
-            for round in 0..rounds {
-                // Each round begins with another one: where the machine is shared, others may take it away at the same turn of every round.
-                for turn in 0..names.len() {
-                    let k = (round + turn) % names.len();
-                    times[k].push(time(&mut decoders[k], samples.len(), micros));
-                }
-            }
-            let medians: Vec<String> = times.into_iter().map(|t| format!("{:.4}", median(t))).collect();
-            println!("time {name} {level} {}", medians.join(" "));
+            let decoders = names.iter().map(|who| decoder(who, &samples, Settings { level, ..settings })).collect();
+            println!("time {name} {level} {}", medians(decoders, samples.len(), rounds, micros, &agrees));
         }
+    }
+}
+
+/// One line a length: the median time of the remainder of a string by each. Every second string has the remainder 0.
+fn remainders(names: &[&str], rounds: usize, micros: f64) {
+    for n in LENGTHS {
+        let r = &mut Random(n as u64);
+        let strings: Vec<Vec<u8>> = (0..64)
+            .map(|i| {
+                let mut x: Vec<u8> = (0..n - 3).map(|_| r.word() as u8).collect();
+                x.extend(&(oracle_a::checksum(&x) ^ i % 2).to_be_bytes()[1..]);
+                x
+            })
+            .collect();
+        let dividers = names.iter().map(|who| divider(who, &strings)).collect();
+        println!("length {n} {}", medians(dividers, strings.len(), rounds, micros, same));
     }
 }
 
@@ -326,7 +368,10 @@ fn repeat(name: &str, who: &str, n: usize) {
 
 /// A wrong call: one line, status 2.
 fn stop() -> ! {
-    eprintln!("bench: table, searches, trays, trays-both or before ROUNDS MICROS, line ROUNDS or repeat KIND WHO N, each number from 1");
+    eprintln!(
+        "bench: table, searches, trays, trays-both, remainders, before or remainders-before ROUNDS MICROS, line ROUNDS or repeat KIND WHO N, each \
+         number from 1"
+    );
     std::process::exit(2)
 }
 
@@ -340,6 +385,8 @@ fn main() {
         ["trays-both", rounds, micros] => {
             table(&TRAYS_BOTH, kinds::of(&TRAY_KINDS, TRAY), number(rounds), number(micros) as f64, same)
         }
+        ["remainders", rounds, micros] => remainders(&DIVIDERS, number(rounds), number(micros) as f64),
+        ["remainders-before", rounds, micros] => remainders(&["before", "khlongrae"], number(rounds), number(micros) as f64),
         ["before", rounds, micros] => table(&["before", "khlongrae"], kinds::all(8), number(rounds), number(micros) as f64, same),
         ["line", rounds] => line(number(rounds)),
         ["repeat", kind, who, n] => repeat(kind, who, number(n)),

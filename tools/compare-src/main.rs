@@ -257,6 +257,21 @@ fn lookups(f: &mut Faults, t: &Tables) {
     println!("lookups: all 16,777,216 remainders, {singles} single and {doubles} double errors");
 }
 
+/// The remainders of random strings of 0 to 64 bytes.
+fn remainders(f: &mut Faults, seed: u64) {
+    const STRINGS: u64 = 1_000_000;
+    let (r, mut lengths) = (&mut Random(!seed), [0; 65]);
+    for number in 0..STRINGS {
+        let bytes: Vec<u8> = (0..r.below(65)).map(|_| r.word() as u8).collect();
+        let ours = proved::checksum(&bytes);
+        f.same("remainder of a string", number, ours, oracle_a::checksum(&bytes));
+        f.same("remainder of a string, by the division", number, ours, divided(&bytes));
+        lengths[bytes.len()] += 1;
+    }
+    f.same("whether a length never came up", 0, lengths.contains(&0), false);
+    println!("remainders: {STRINGS} strings of 0 to 64 bytes");
+}
+
 /// Every first byte with up to two bits turned over, and what is refused, for either kind.
 fn headers(f: &mut Faults) {
     const POSITIONS: [u32; 14] = [0, 1, 2, 3, 4, 5, 6, 7, 8, 55, 56, 111, 112, u32::MAX];
@@ -471,6 +486,7 @@ fn main() {
     for first in 0..=255 {
         f.same("kind of address, by the first byte", u64::from(first), proved::address_kind(first), rules::address_kind(first));
     }
+    remainders(f, g.seed);
     headers(f);
     for t in [&t.long, &t.short] {
         f.same("zeros, as undecided bits are, are a message", 0, t.takes_zeros(), false);

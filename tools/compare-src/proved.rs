@@ -201,6 +201,11 @@ pub fn cn0(prompt: f32, noise: f32) -> f32 {
 pub fn parabola(early: f32, prompt: f32, late: f32) -> f32 {
     unsafe { probe_parabola(early, prompt, late) }
 }
+/// Of a whole string of bytes.
+pub fn checksum(bytes: &[u8]) -> u32 {
+    unsafe { raw::khlongrae_remainder(bytes.as_ptr(), bytes.len()) }
+}
+/// Of the message at an offset of a stream.
 pub fn remainder(bytes: &[u8], offset: usize) -> Number {
     unsafe { probe_remainder(bytes.as_ptr(), bytes.len(), offset) }
 }

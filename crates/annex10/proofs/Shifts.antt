@@ -1,6 +1,7 @@
 -- A byte of the division by shifts.
 --     shifts-are     the shifts of a byte are its remainder: all 256 are computed
---     byte-lt        the byte that is divided
+--     row-le         the row of terms is a difference
+--     byte-lt        what is divided is a byte
 --     brought        what the code computes
 --     bring-more     from the remainder of a string to that of the string and one byte more
 --     one-byte       WHAT IT IS FOR
@@ -9,44 +10,45 @@
 use mathlib.Core.Path.{_≡_, refl, sym, ap, ap₂, _∙_}
 use mathlib.Core.Bool.{Bool}
 use mathlib.Core.List.{List, [], _∷_, _++_}
-use Prim.Native.Nat.{ℕ, _+_, _-_, _*_, _/_, _%_, _^_, _<_}
+use Prim.Native.Nat.{ℕ, _+_, _-_, _*_, _/_, _%_, _^_, _<_, _≤_}
 use native.Mathlib.Nat.{mod-eq-of-lt}
 use native.Mathlib.Numerals.{add-one}
 use native.Mathlib.Omega.{arith}
 use lib.Dec.{eqb, eqb→eq}
 use lib.ListN.{take, getD, length}
 use lib.Seq.{take-suc}
-use lib.Bits.{bitXor, bitAnd, and-mask, mask-lt}
+use lib.Bits.{bitXor, xor-lt, bitAnd, and-mask, mask-lt}
 use Rattle.lists.proofs.Test.{below}
 use Rattle.annex10.specs.Remainder.{remainder}
 use Rattle.annex10.specs.Bytes.{bringByte, OneByteMore}
 use Rattle.annex10.proofs.Linear.{remainder-lt}
 use Rattle.annex10.proofs.Bytewise.{remainder-next}
 
--- as the code has it; m is all bits of a word where the byte is odd, or none
-abbrev shifts : ℕ → ℕ → ℕ
-shifts b m =
-    bitXor (bitXor (bitXor (bitXor (b * 2 ^ 11 % 2 ^ 32) (bitXor b (b / 2 ^ 1) * 2 ^ 10 % 2 ^ 32)) (bitXor b (b / 2 ^ 1) * 2 ^ 3 % 2 ^ 32)) (bitXor b (b / 2 ^ 1)))
-    (bitAnd m 0xfff800)
+-- as the code has it
+abbrev pub shifts : ℕ → ℕ
+shifts b =
+    bitXor
+    (bitXor
+    (bitXor (bitXor (b * 2 ^ 11 % 2 ^ 32) (bitAnd b 1 * 2 ^ 24 % 2 ^ 32 - bitAnd b 1 * 2 ^ 11 % 2 ^ 32)) (bitXor b (b / 2 ^ 1) * 2 ^ 3 % 2 ^ 32))
+    (bitXor b (b / 2 ^ 1) * 2 ^ 10 % 2 ^ 32))
+    (bitXor b (b / 2 ^ 1))
 
 test : ℕ → Bool
-test b = eqb (shifts b (bitAnd b 1 * 0xffffffff)) (remainder (b ∷ []))
+test b = eqb (shifts b) (remainder (b ∷ []))
 
-shifts-test : (b : ℕ) → b < 256 → shifts b (bitAnd b 1 * 0xffffffff) ≡ remainder (b ∷ [])
+pub shifts-are : (b : ℕ) → b < 256 → shifts b ≡ remainder (b ∷ [])
 unfolding test remainder
-shifts-test b h = eqb→eq _ _ (below 256 test tt b h)
+shifts-are b h = eqb→eq _ _ (below 256 test tt b h)
 
-pub shifts-are : (b m : ℕ) → b < 256 → m < 2 ^ 32 → (m + bitAnd b 1) % 2 ^ 32 ≡ 0
-    → bitXor (bitXor (bitXor (bitXor (b * 2 ^ 11 % 2 ^ 32) (bitXor b (b / 2 ^ 1) * 2 ^ 10 % 2 ^ 32)) (bitXor b (b / 2 ^ 1) * 2 ^ 3 % 2 ^ 32)) (bitXor b (b / 2 ^ 1)))
-    (bitAnd m 0xfff800) ≡ remainder (b ∷ [])
-shifts-are b m h l e =
-    let x = bitAnd b 1 in
-    let two : x < 2 = mask-lt b 1 in
-    let z : m ≡ x * 0xffffffff = omega arith in
-    ap (shifts b) z ∙ shifts-test b h
+pub row-le : (b : ℕ) → bitAnd b 1 * 2 ^ 11 % 2 ^ 32 ≤ bitAnd b 1 * 2 ^ 24 % 2 ^ 32
+row-le b =
+    let two : bitAnd b 1 < 2 = mask-lt b 1 in
+    let low : bitAnd b 1 * 2 ^ 11 % 2 ^ 32 ≡ bitAnd b 1 * 2 ^ 11 = mod-eq-of-lt (omega arith) in
+    let high : bitAnd b 1 * 2 ^ 24 % 2 ^ 32 ≡ bitAnd b 1 * 2 ^ 24 = mod-eq-of-lt (omega arith) in
+    omega arith
 
-pub byte-lt : (crc : ℕ) → bitAnd (crc / 2 ^ 16) 255 < 256
-byte-lt crc = mask-lt (crc / 2 ^ 16) 8
+pub byte-lt : (crc b : ℕ) → b < 256 → bitXor (bitAnd (crc / 2 ^ 16) 255) b < 256
+byte-lt crc b h = xor-lt 8 (bitAnd (crc / 2 ^ 16) 255) b (mask-lt (crc / 2 ^ 16) 8) h
 
 pub brought : (crc b r : ℕ) → r ≡ remainder (bitXor (bitAnd (crc / 2 ^ 16) 255) b ∷ [])
     → bitXor (bitAnd crc (2 ^ 16 - 1) * 2 ^ 8 % 2 ^ 32) r ≡ bringByte crc b

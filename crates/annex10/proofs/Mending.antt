@@ -4,7 +4,7 @@
 --     clear_already, not_clear  a remainder of 0 needs no position, and no other is cleared by none
 --     other_length, level_high, repair_done     what a repair answers
 -- Assumes nothing.
-use mathlib.Core.Path.{◌≡◌, refl, ap, ◌∙◌, fun_ext}
+use mathlib.Core.Path.{◌≡◌, refl, sym, ap, ◌∙◌, fun_ext}
 use mathlib.Core.Bool.{Bool, true, false, cond}
 use mathlib.Core.List.{List}
 use mathlib.Core.Logic.{◌≢◌}
@@ -23,6 +23,7 @@ use Rattle.annex10.specs.declared.Found.{Found}
 use Rattle.annex10.specs.declared.Found.TheVariants.{At, Nothing}
 use Rattle.annex10.specs.Repair.{repaired, pattern, seek, choose, fitting, clearing}
 use Rattle.annex10.specs.Any.{up_to, clearing_up_to}
+use Rattle.annex10.proofs.UpTo.{cleared_up_to}
 use Rattle.annex10.specs.Mend.{tried, mended, repair_of}
 use Rattle.annex10.proofs.Repairing.{clears_when}
 
@@ -50,14 +51,21 @@ tried_fits m ρ = go (eqb (remainder (repaired m ρ)) 0) refl
     go true e = rw (eq-eqb _ _ ((clears_when (length m) m ρ refl).0 (eqb-true _ _ e)))
     go false e = rw (ne_eqb _ _ (λ q. eqb-false _ _ e ((clears_when (length m) m ρ refl).1 q)))
 
+-- what clears a remainder is a choice
+clearing_chosen : (bytes n r : ℕ) → clearing bytes n r ≡ choose (fitting bytes r) bytes n
+unfolding clearing choose
+clearing_chosen bytes zero r = refl
+clearing_chosen bytes (suc zero) r = refl
+clearing_chosen bytes (suc (suc zero)) r = refl
+clearing_chosen bytes (suc (suc (suc n))) r = refl
+
 -- exactly n positions
 tried_is : (m : List ℕ) (n : ℕ) → choose (tried m) (length m) n ≡ clearing (length m) n (remainder m)
-unfolding clearing
-tried_is m n = ap (λ (f : Repairs → Found). choose f (length m) n) (fun_ext (tried_fits m))
+tried_is m n = ap (λ (f : Repairs → Found). choose f (length m) n) (fun_ext (tried_fits m)) ∙ sym (clearing_chosen (length m) n (remainder m))
 
 pub mended_is : (level : ℕ) (m : List ℕ) → mended level m ≡ clearing_up_to (length m) level (remainder m)
-unfolding mended clearing_up_to
-mended_is level m = ap (λ (f : ℕ → Found). up_to f level) (fun_ext (tried_is m))
+unfolding mended
+mended_is level m = ap (λ (f : ℕ → Found). up_to f level) (fun_ext (tried_is m)) ∙ sym (cleared_up_to (length m) level (remainder m))
 
 -- ---- no position
 

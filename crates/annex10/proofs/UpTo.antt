@@ -1,6 +1,8 @@
 -- Laws of the positions that clear a remainder, at most so many.
 --     none_found, one_found      the fewest first: what is found with no position, and with one, is found at every level that asks for it
 --     none_asked, one_asked, two_asked     what is found at each level where fewer clear nothing
+--     cleared_up_to              what clears with at most so many is such a search
+--     up_to_two                  at level 2 they are those of any number
 --     up_to_found                what is found fits and is no more than the level
 --     up_to_gone, up_to_none     where nothing is found, no number of positions clears, and back
 --     only_up_to                 those of them that are n, up to the level, are what `clearing` finds
@@ -20,7 +22,7 @@ use Rattle.annex10.specs.declared.Repairs.TheVariants.{None, One, Two}
 use Rattle.annex10.specs.declared.Found.{Found}
 use Rattle.annex10.specs.declared.Found.TheVariants.{At, Nothing}
 use Rattle.annex10.specs.Repair.{count, pattern, Apart, or_else, clearing}
-use Rattle.annex10.specs.Any.{up_to, clearing_up_to, only}
+use Rattle.annex10.specs.Any.{clearing_any, up_to, clearing_up_to, only}
 use Rattle.annex10.proofs.Linear.{remainder_lt}
 use Rattle.annex10.proofs.Repairing.{Clears, found, not_found, not_there, clearing_is, pattern_none}
 
@@ -63,7 +65,21 @@ module _ (f : ℕ → Found) (level : ℕ) where
 
 -- ---- what clears a remainder
 
+-- with at most so many positions, as a search for the fewest
+pub cleared_up_to : (bytes level r : ℕ) → clearing_up_to bytes level r ≡ up_to (λ n. clearing bytes n r) level
+unfolding clearing_up_to up_to
+cleared_up_to bytes zero r = refl
+cleared_up_to bytes (suc level) r = rw (cleared_up_to bytes level r)
+
 module _ (bytes r : ℕ) where
+  pub up_to_two : clearing_up_to bytes 2 r ≡ clearing_any bytes r
+  unfolding clearing_up_to clearing_any
+  up_to_two = go (clearing bytes 0 r) (clearing bytes 1 r)
+    where
+      go : (o p : Found) → or_else (or_else o p) (clearing bytes 2 r) ≡ or_else o (or_else p (clearing bytes 2 r))
+      go (At ρ) p = refl
+      go Nothing p = refl
+
   of : (n level : ℕ) {ρ : Repairs} → n ≤ level → clearing bytes n r ≡ At ρ → ClearsUpTo bytes level r ρ
   of n level h e =
       let c = found bytes n r e in

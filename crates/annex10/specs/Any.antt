@@ -14,8 +14,10 @@ unfoldable pub up_to : (ℕ → Found) → ℕ → Found
 up_to f zero = f 0
 up_to f (suc level) = or_else (up_to f level) (f (suc level))
 
+-- no position, else one, and so on, up to as many as the level allows
 unfoldable pub clearing_up_to : ℕ → ℕ → ℕ → Found
-clearing_up_to bytes level r = up_to (λ n. clearing bytes n r) level
+clearing_up_to bytes zero r = clearing bytes 0 r
+clearing_up_to bytes (suc level) r = or_else (clearing_up_to bytes level r) (clearing bytes (suc level) r)
 
 -- what is found, if it is n positions
 abbrev pub only : Found → ℕ → Found

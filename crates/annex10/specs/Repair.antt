@@ -78,6 +78,9 @@ choose f bytes (suc (suc (suc n))) = Nothing
 unfoldable pub fitting : ℕ → ℕ → Repairs → Found
 fitting bytes r ρ = cond (eqb (pattern bytes ρ) r) (At ρ) Nothing
 
--- the first choice of exactly n positions whose pattern has the remainder r
+-- the first choice of exactly n positions, n at most 2, whose pattern has the remainder r
 unfoldable pub clearing : ℕ → ℕ → ℕ → Found
-clearing bytes n r = choose (fitting bytes r) bytes n
+clearing bytes zero r = fitting bytes r None
+clearing bytes (suc zero) r = seek (λ j. fitting bytes r (One j)) (8 * bytes)
+clearing bytes (suc (suc zero)) r = seek (λ k. seek (λ j. fitting bytes r (Two j k)) k) (8 * bytes)
+clearing bytes (suc (suc (suc n))) r = Nothing

@@ -1,5 +1,7 @@
 // The types of a repair and of an address, whose meaning stands in specs/; how many bytes a message has, and how many positions a repair
 // names, and whether they lie in it.
+#![tactic(auto)]
+
 pub mod codes;
 pub mod division;
 
@@ -8,7 +10,7 @@ ghost use Rattle.annex10.specs.Length.{message_length};
 ghost use Rattle.annex10.specs.Repair.{count, inside};
 
 // At most two positions of a message, whose bits are turned over.
-#[derive(Drop)]
+#[derive(Clone, Copy)]
 pub enum Repairs {
     None,
     One(u8),
@@ -16,21 +18,21 @@ pub enum Repairs {
 }
 
 // What a search for positions finds.
-#[derive(Drop)]
+#[derive(Clone, Copy)]
 pub enum Found {
     At(Repairs),
     Nothing,
 }
 
 // What a repair of a message answers.
-#[derive(Drop)]
+#[derive(Clone, Copy)]
 pub enum Mended {
     Is(Found),
     Refused(u32),
 }
 
 // What the three bytes behind a first byte are.
-#[derive(Drop)]
+#[derive(Clone, Copy)]
 pub enum AddressKind {
     Icao,
     Other,

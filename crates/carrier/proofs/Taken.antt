@@ -1,24 +1,15 @@
 -- Which calls are taken, and what is known of one that is.
---     refuted, upheld   a test that the code turns round
 --     bins-             a number of bins
 --     search_taken, floor_taken, carrier_taken     what a number 0 says
 -- Assumes nothing.
 use mathlib.Core.Path.{◌≡◌, refl, sym, ◌∙◌}
-use mathlib.Core.Bool.{Bool, true, false, not, cond, ◌&&◌, true≢false}
+use mathlib.Core.Bool.{Bool, true, false, cond, ◌&&◌, true≢false}
 use Prim.Native.Nat.{ℕ, ◌+◌, ◌-◌, ◌/◌, ◌%◌, ◌<◌, ◌≤◌}
 use native.Mathlib.Omega.{arith}
-use borrow.Author.Tests.{not-true, not-false, ltb-true, leb-true, le-leb, lt-leb}
+use borrow.Author.Tests.{ltb-true, leb-true, le-leb, lt-leb}
 use lib.Dec.{eqb, leb, ltb}
 use lib.Ieee.{Float}
 use Rattle.carrier.specs.Refusals.{bins_taken, threshold_taken, search_number, floor_number, carrier_number}
-
--- ---- a test that is turned round
-
-pub refuted : {t u : Bool} → t ≡ u → not t ≡ true → u ≡ false
-refuted {t = t} e h = sym e ∙ not-true t h
-
-pub upheld : {t u : Bool} → t ≡ u → not t ≡ false → u ≡ true
-upheld {t = t} e h = sym e ∙ not-false t h
 
 -- ---- a number of bins
 

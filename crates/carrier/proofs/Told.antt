@@ -14,43 +14,43 @@ use Rattle.carrier.specs.declared.metric.Carrier.{Carrier}
 use Rattle.carrier.specs.declared.metric.Carrier.TheVariants as metric
 use Rattle.carrier.specs.declared.maximum.LocalMaximum.{LocalMaximum}
 use Rattle.carrier.specs.declared.maximum.LocalMaximum.TheVariants as maximum
-use Rattle.carrier.specs.Peaks.{searchTold}
-use Rattle.carrier.specs.Floors.{floorTold}
-use Rattle.carrier.specs.Carriers.{CarrierValues, carrierTold}
-use Rattle.carrier.specs.Maxima.{maximumTold}
+use Rattle.carrier.specs.Peaks.{search_told}
+use Rattle.carrier.specs.Floors.{floor_told}
+use Rattle.carrier.specs.Carriers.{CarrierValues, carrier_told}
+use Rattle.carrier.specs.Maxima.{maximum_told}
 
-abbrev pub searchUntold : Told (ℕ × Float) → Search
-searchUntold (n, some (bin, value)) = search.Found bin value
-searchUntold (n, none) = search.Refused n
+abbrev pub search_untold : Told (ℕ × Float) → Search
+search_untold (n, some (bin, value)) = search.Found bin value
+search_untold (n, none) = search.Refused n
 
-pub search-back : (r : Search) → searchUntold (searchTold r) ≡ r
-search-back (search.Found bin value) = refl
-search-back (search.Refused n) = refl
+pub search_back : (r : Search) → search_untold (search_told r) ≡ r
+search_back (search.Found bin value) = refl
+search_back (search.Refused n) = refl
 
-abbrev pub floorUntold : Told Float → Floor
-floorUntold (n, some p) = notch.Is p
-floorUntold (n, none) = notch.Refused n
+abbrev pub floor_untold : Told Float → Floor
+floor_untold (n, some p) = notch.Is p
+floor_untold (n, none) = notch.Refused n
 
-pub floor-back : (r : Floor) → floorUntold (floorTold r) ≡ r
-floor-back (notch.Is p) = refl
-floor-back (notch.Refused n) = refl
+pub floor_back : (r : Floor) → floor_untold (floor_told r) ≡ r
+floor_back (notch.Is p) = refl
+floor_back (notch.Refused n) = refl
 
-abbrev pub carrierUntold : Told CarrierValues → Carrier
-carrierUntold (n, some (true, bin, fraction, value, floor)) = metric.Peak bin fraction value floor
-carrierUntold (n, some (false, bin, fraction, value, floor)) = metric.Weak value floor
-carrierUntold (n, none) = metric.Refused n
+abbrev pub carrier_untold : Told CarrierValues → Carrier
+carrier_untold (n, some (true, bin, fraction, value, floor)) = metric.Peak bin fraction value floor
+carrier_untold (n, some (false, bin, fraction, value, floor)) = metric.Weak value floor
+carrier_untold (n, none) = metric.Refused n
 
-pub carrier-back : (r : Carrier) → carrierUntold (carrierTold r) ≡ r
-carrier-back (metric.Peak bin fraction value floor) = refl
-carrier-back (metric.Weak value floor) = refl
-carrier-back (metric.Refused n) = refl
+pub carrier_back : (r : Carrier) → carrier_untold (carrier_told r) ≡ r
+carrier_back (metric.Peak bin fraction value floor) = refl
+carrier_back (metric.Weak value floor) = refl
+carrier_back (metric.Refused n) = refl
 
-abbrev pub maximumUntold : Told Bool → LocalMaximum
-maximumUntold (n, some true) = maximum.Yes
-maximumUntold (n, some false) = maximum.No
-maximumUntold (n, none) = maximum.Refused n
+abbrev pub maximum_untold : Told Bool → LocalMaximum
+maximum_untold (n, some true) = maximum.Yes
+maximum_untold (n, some false) = maximum.No
+maximum_untold (n, none) = maximum.Refused n
 
-pub maximum-back : (r : LocalMaximum) → maximumUntold (maximumTold r) ≡ r
-maximum-back maximum.Yes = refl
-maximum-back maximum.No = refl
-maximum-back (maximum.Refused n) = refl
+pub maximum_back : (r : LocalMaximum) → maximum_untold (maximum_told r) ≡ r
+maximum_back maximum.Yes = refl
+maximum_back maximum.No = refl
+maximum_back (maximum.Refused n) = refl

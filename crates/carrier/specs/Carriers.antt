@@ -17,10 +17,10 @@ abbrev pub CarrierValues : Type 0
 CarrierValues = Bool × ℕ × Float × Float × Float
 
 -- an answer: its number, and the values with number 0
-abbrev pub carrierTold : Carrier → Told CarrierValues
-carrierTold (Peak bin fraction value floor) = done (true, bin, fraction, value, floor)
-carrierTold (Weak value floor) = done (false, 0, zero_f, value, floor)
-carrierTold (Refused n) = refused n
+abbrev pub carrier_told : Carrier → Told CarrierValues
+carrier_told (Peak bin fraction value floor) = done (true, bin, fraction, value, floor)
+carrier_told (Weak value floor) = done (false, 0, zero_f, value, floor)
+carrier_told (Refused n) = refused n
 
 -- the parabola over the bins before, at and after a bin, not held to a range
 unfoldable pub bin_fraction : List Float → ℕ → Float

@@ -27,9 +27,9 @@ unfoldable pub floor_of : List Float → ℕ → ℕ → Float
 floor_of s bin w = floor_to s bin w (length s)
 
 -- an answer: its number, and the floor with number 0
-abbrev pub floorTold : Floor → Told Float
-floorTold (Is p) = done p
-floorTold (Refused n) = refused n
+abbrev pub floor_told : Floor → Told Float
+floor_told (Is p) = done p
+floor_told (Refused n) = refused n
 
 -- what `carrier_notched_power` answers
 unfoldable pub floor_at : List Float → ℕ → ℕ → Told Float

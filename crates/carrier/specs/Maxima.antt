@@ -8,10 +8,10 @@ use Rattle.carrier.specs.declared.maximum.LocalMaximum.{LocalMaximum}
 use Rattle.carrier.specs.declared.maximum.LocalMaximum.TheVariants.{Yes, No, Refused}
 
 -- an answer: its number, and with number 0 whether it is a maximum
-abbrev pub maximumTold : LocalMaximum → Told Bool
-maximumTold Yes = done true
-maximumTold No = done false
-maximumTold (Refused n) = refused n
+abbrev pub maximum_told : LocalMaximum → Told Bool
+maximum_told Yes = done true
+maximum_told No = done false
+maximum_told (Refused n) = refused n
 
 -- one of the two before is as great as the third
 unfoldable pub earlier_as_great : List Float → Bool

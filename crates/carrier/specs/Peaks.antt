@@ -28,9 +28,9 @@ unfoldable pub peak_of : List Float → ℕ → Best
 peak_of s m = peak_from s (length s / 2 - m) (2 * m + 1)
 
 -- an answer: its number, and bin and value with number 0
-abbrev pub searchTold : Search → Told (ℕ × Float)
-searchTold (Found bin value) = done (bin, value)
-searchTold (Refused n) = refused n
+abbrev pub search_told : Search → Told (ℕ × Float)
+search_told (Found bin value) = done (bin, value)
+search_told (Refused n) = refused n
 
 -- what `long_fft_max_search` answers
 unfoldable pub search_of : List Float → ℕ → Told (ℕ × Float)

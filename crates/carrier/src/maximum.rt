@@ -1,8 +1,8 @@
 // Whether the third of five values is a local maximum: of a plateau, the first is.
 ghost use Rattle.std.specs.Prelude.{◌≡◌};
-ghost use Rattle.carrier.specs.Maxima.{maximumTold, maximum_of};
+ghost use Rattle.carrier.specs.Maxima.{maximum_told, maximum_of};
 
-#[derive(Drop)]
+#[derive(Clone, Copy)]
 pub enum LocalMaximum {
     Yes,
     No,
@@ -10,7 +10,7 @@ pub enum LocalMaximum {
 }
 
 pub fn check_local_maximum(values: &[f32]) -> LocalMaximum
-    ensures { maximumTold result ≡ maximum_of values.now }
+    ensures { maximum_told result ≡ maximum_of values.now }
 {
     if values.len() != 5 {
         return LocalMaximum::Refused(2);

@@ -1,13 +1,13 @@
 // The carrier call: whether the strongest bin stands out, and where in it the carrier lies.
 ghost use Rattle.std.specs.Prelude.{◌≡◌, ◌+◌, ◌/◌, ◌<◌, ◌≤◌, length};
 ghost use Rattle.lists.specs.Told.{done};
-ghost use Rattle.carrier.specs.Carriers.{carrierTold, bin_fraction, measured, carrier_of};
+ghost use Rattle.carrier.specs.Carriers.{carrier_told, bin_fraction, measured, carrier_of};
 
 use crate::bins::{notched_power, strongest};
 use crate::refusal::carrier_number;
 use math::parabolic_interpolation;
 
-#[derive(Drop)]
+#[derive(Clone, Copy)]
 pub enum Carrier {
     Peak {
         bin: usize,
@@ -32,7 +32,7 @@ fn bin_fraction(spectrum: &[f32], bin: usize) -> f32
 
 fn measure(spectrum: &[f32], search: usize, notch: usize, threshold: f32) -> Carrier
     requires { (search + 2 ≤ length spectrum.now / 2) × (notch < length spectrum.now) × (length spectrum.now ≤ 4096) }
-    ensures { carrierTold result ≡ done (measured spectrum.now search notch threshold) }
+    ensures { carrier_told result ≡ done (measured spectrum.now search notch threshold) }
 {
     let best = strongest(spectrum, search);
     let bin = best.bin;
@@ -56,7 +56,7 @@ pub fn check_carrier_metric(
     notch: usize,
     threshold: f32,
 ) -> Carrier
-    ensures { carrierTold result ≡ carrier_of spectrum.now search notch threshold }
+    ensures { carrier_told result ≡ carrier_of spectrum.now search notch threshold }
 {
     let number = carrier_number(spectrum.len(), search, notch, threshold);
     if number != 0 {

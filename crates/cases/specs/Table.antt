@@ -54,8 +54,8 @@ check = 49 ∷ 50 ∷ 51 ∷ 52 ∷ 53 ∷ 54 ∷ 55 ∷ 56 ∷ 57 ∷ []
 abbrev pub quarter : Float
 quarter = fin false 1 (negsuc 1)
 
-abbrev pub one_and_aHalf : Float
-one_and_aHalf = fin false 3 (negsuc 0)
+abbrev pub one_and_a_half : Float
+one_and_a_half = fin false 3 (negsuc 0)
 
 abbrev pub three : Float
 three = fin false 3 (pos 0)
@@ -80,7 +80,7 @@ cases =
     ∷ truth (long_header 0x90) true
     ∷ truth (long_header 0x89) false
     ∷ truth (long_header 0x91) false
-    ∷ whole (log_steps one_and_aHalf) (pos 38336)
+    ∷ whole (log_steps one_and_a_half) (pos 38336)
     ∷ whole (log_steps two) (pos 65536)
     ∷ real (parabola one one one) zero_f
     ∷ real (parabola zero_f three two) quarter

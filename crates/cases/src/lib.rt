@@ -1,1 +1,2 @@
 // The worked cases of the rules, proved: one table, one statement; no code.
+#![tactic(auto)]

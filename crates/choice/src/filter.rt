@@ -12,7 +12,7 @@ use place::location::Location;
 use search::{Candidate, Settings};
 
 // Whether a candidate is dropped, or a refusal.
-#[derive(Drop)]
+#[derive(Clone, Copy)]
 pub enum Filtered {
     Is(bool),
     Refused(u32),

@@ -11,7 +11,7 @@ use lib.Dec.{T, lit≤, ltb→lt}
 use lib.Pow.{pow-add, pow_pos, shl_lt, shl-shr}
 use lib.Count.{count_leading_zeros, leading_unique}
 use lib.IntN.{ℤ, pos, negsuc, ◌+ℤ◌, ◌-ℤ◌}
-use lib.Ieee.{Float, nan, inf, fin, binary32, low, up, down, size, fits, to_bits, is_nan}
+use lib.Ieee.{Float, nan, inf, fin, binary32, up, down, size, fits, to_bits, is_nan}
 use lib.Ieee.Digits.{size-lt, size-le, size_reaches}
 use lib.Ieee.Fits.{down_pos, kept-lt}
 use lib.Ieee.Positive.{positive}

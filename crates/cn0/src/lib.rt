@@ -1,4 +1,6 @@
 // Carrier to noise density.
+#![tactic(auto)]
+
 mod logarithm;
 
 ghost use Rattle.std.specs.Prelude.{◌≡◌};

@@ -7,7 +7,7 @@ ghost use Rattle.cn0.specs.Logarithm.{digits, log_steps};
 ghost use Rattle.cn0.specs.Inner.{Placed};
 
 // Where the leading digit stands, counted from 1 at 2^-149, and the digits as a number in [2^31, 2^32).
-#[derive(Drop)]
+#[derive(Clone, Copy)]
 pub struct Parts {
     pub place: u32,
     pub significand: u64,

@@ -1,14 +1,16 @@
 // An input that comes in parts: which part is wanted next, what becomes of it, what is to be said.
 // Whoever reads hands over, and says it in its own way; all else is here.
+#![tactic(auto)]
+
 mod head;
+pub mod machine;
 mod moves;
-pub mod parts;
 mod samples;
 
 use search::Settings;
 
 // The numbers of 32 bits before the samples, in their order.
-#[derive(Drop)]
+#[derive(Clone, Copy)]
 pub enum Field {
     SettingsCount,
     Level,
@@ -20,7 +22,7 @@ pub enum Field {
 }
 
 // What the next part holds. The indices come between the window count and the sample count. Over: no part is wanted any more.
-#[derive(Drop)]
+#[derive(Clone, Copy)]
 pub enum Stage {
     Number(Field),
     Index,
@@ -31,7 +33,7 @@ pub enum Stage {
 
 // What is known of an input so far: its settings, how many windows it announces, how many of their indices, then of their samples,
 // came, and the indices.
-#[derive(Drop)]
+#[derive(Clone, Copy)]
 pub struct State {
     pub stage: Stage,
     pub settings: Settings,
@@ -41,7 +43,7 @@ pub struct State {
 }
 
 // A window whose samples are the part that came.
-#[derive(Drop)]
+#[derive(Clone, Copy)]
 pub struct Shot {
     pub window: u32,
     pub settings: Settings,
@@ -49,7 +51,7 @@ pub struct Shot {
 }
 
 // What is to be said: so many windows are announced, a window came, or a refusal that ends it all.
-#[derive(Drop)]
+#[derive(Clone, Copy)]
 pub enum Said {
     Nothing,
     Head(u32),
@@ -58,7 +60,7 @@ pub enum Said {
 }
 
 // What becomes of a state, and what is to be said.
-#[derive(Drop)]
+#[derive(Clone, Copy)]
 pub struct Fed {
     pub state: State,
     pub said: Said,

@@ -1,2 +1,4 @@
 // From samples to symbols.
+#![tactic(auto)]
+
 pub mod symbols;

@@ -8,8 +8,7 @@ use mode_s::header::address_kind;
 
 // What the three bytes behind a first byte are: 1 an ICAO address, 2 one of another kind, 3 one of which a flag inside the message tells
 // the kind, 0 none. The byte is taken as it is after the repairs.
-#[unsafe(no_mangle)]
-pub extern "C" fn khlongrae_address_kind(first: u8) -> u32
+pub fn khlongrae_address_kind(first: u8) -> u32
     ensures { result ≡ kind_code (address_kind first) }
 {
     match address_kind(first) {

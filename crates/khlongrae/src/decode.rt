@@ -9,7 +9,7 @@ use receiver::decode::{decode, decode_both, decode_short};
 
 // What a decode of both kinds answers: a number for each.
 #[repr(C)]
-#[derive(Drop)]
+#[derive(Clone, Copy)]
 pub struct FlatBoth {
     pub number: u32,
     pub short_number: u32,
@@ -37,8 +37,7 @@ fn lent_number(bytes: usize, samples: &[f32], message: &[u8], words: &[u64], num
 // Answers number 0 and writes the message (14 bytes), the whole numbers (10) and the floats (2). Any other number writes nothing.
 // Refused: 2 a window that has not 2,310 numbers, 3 lent memory of another length, 4 a level above 2, 5 a threshold that is
 // not finite, 6 an index below 128 or above 2^63; 1 where no message is found.
-#[unsafe(no_mangle)]
-pub extern "C" fn khlongrae_decode(
+pub fn khlongrae_decode(
     samples: &[f32],
     level: u32,
     threshold: f32,
@@ -60,8 +59,7 @@ pub extern "C" fn khlongrae_decode(
 }
 
 // The same for a short message: 7 bytes. At most one bit is repaired; the thresholds are checked, and have no effect.
-#[unsafe(no_mangle)]
-pub extern "C" fn khlongrae_decode_short(
+pub fn khlongrae_decode_short(
     samples: &[f32],
     level: u32,
     threshold: f32,
@@ -83,8 +81,7 @@ pub extern "C" fn khlongrae_decode_short(
 }
 
 // Both: what each of the two calls answers and writes. Where the window or any of the lent memory has another length, both numbers say so.
-#[unsafe(no_mangle)]
-pub extern "C" fn khlongrae_decode_both(
+pub fn khlongrae_decode_both(
     samples: &[f32],
     level: u32,
     threshold: f32,

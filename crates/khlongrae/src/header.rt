@@ -11,7 +11,7 @@ use mode_s::header::{Validity, header_is_valid, header_is_valid_short};
 use mode_s::message::MessageKind;
 
 #[repr(C)]
-#[derive(Drop)]
+#[derive(Clone, Copy)]
 pub struct FlatHeader {
     pub number: u32,
     pub valid: u32,
@@ -73,16 +73,14 @@ fn check_counted(kind: MessageKind, bits: u32, first: u8, count: u32, j: u32, k:
 
 // Whether the first byte of a 14-byte message is that of an extended squitter once `count` positions are repaired: none, j, or j
 // and k. Refused: 4 a count above 2, 8 a counted position above 111. The positions are wide, so that none is cut to a smaller one.
-#[unsafe(no_mangle)]
-pub extern "C" fn khlongrae_header(first: u8, count: u32, j: u32, k: u32) -> FlatHeader
+pub fn khlongrae_header(first: u8, count: u32, j: u32, k: u32) -> FlatHeader
     ensures { result ≡ flat_header (header_check long first count j k) }
 {
     check_counted(MessageKind::Long, 112, first, count, j, k)
 }
 
 // Whether that of a 7-byte message is that of an acquisition squitter. Refused: 4, and 8 a counted position above 55.
-#[unsafe(no_mangle)]
-pub extern "C" fn khlongrae_header_short(first: u8, count: u32, j: u32, k: u32) -> FlatHeader
+pub fn khlongrae_header_short(first: u8, count: u32, j: u32, k: u32) -> FlatHeader
     ensures { result ≡ flat_header (header_check short first count j k) }
 {
     check_counted(MessageKind::Short, 56, first, count, j, k)

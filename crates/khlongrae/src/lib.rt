@@ -1,4 +1,6 @@
-// The library for C and Rust. A slice is a pointer and a length; a struct is answered by value.
+// The calls for C and Rust: lengths are checked, and answers are flat. `khlongrae_c` has each under its own name for their linkers.
+#![tactic(auto)]
+
 pub mod address;
 pub mod decode;
 pub mod header;

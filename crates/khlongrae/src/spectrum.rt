@@ -12,7 +12,7 @@ use carrier::notch::Floor;
 use carrier::search::Search;
 
 #[repr(C)]
-#[derive(Drop)]
+#[derive(Clone, Copy)]
 pub struct FlatSearch {
     pub number: u32,
     pub bin: usize,
@@ -20,14 +20,14 @@ pub struct FlatSearch {
 }
 
 #[repr(C)]
-#[derive(Drop)]
+#[derive(Clone, Copy)]
 pub struct FlatFloor {
     pub number: u32,
     pub floor: f32,
 }
 
 #[repr(C)]
-#[derive(Drop)]
+#[derive(Clone, Copy)]
 pub struct FlatCarrier {
     pub number: u32,
     pub peak: u32,
@@ -38,14 +38,13 @@ pub struct FlatCarrier {
 }
 
 #[repr(C)]
-#[derive(Drop)]
+#[derive(Clone, Copy)]
 pub struct FlatMaximum {
     pub number: u32,
     pub yes: u32,
 }
 
-#[unsafe(no_mangle)]
-pub extern "C" fn khlongrae_long_fft_max_search(spectrum: &[f32], search: usize) -> FlatSearch
+pub fn khlongrae_long_fft_max_search(spectrum: &[f32], search: usize) -> FlatSearch
     ensures { result ≡ flat_search (search_of spectrum.now search) }
 {
     match carrier::search::long_fft_max_search(spectrum, search) {
@@ -62,12 +61,7 @@ pub extern "C" fn khlongrae_long_fft_max_search(spectrum: &[f32], search: usize)
     }
 }
 
-#[unsafe(no_mangle)]
-pub extern "C" fn khlongrae_carrier_notched_power(
-    spectrum: &[f32],
-    bin: usize,
-    notch: usize,
-) -> FlatFloor
+pub fn khlongrae_carrier_notched_power(spectrum: &[f32], bin: usize, notch: usize) -> FlatFloor
     ensures { result ≡ flat_floor (floor_at spectrum.now bin notch) }
 {
     match carrier::notch::carrier_notched_power(spectrum, bin, notch) {
@@ -76,8 +70,7 @@ pub extern "C" fn khlongrae_carrier_notched_power(
     }
 }
 
-#[unsafe(no_mangle)]
-pub extern "C" fn khlongrae_check_carrier_metric(
+pub fn khlongrae_check_carrier_metric(
     spectrum: &[f32],
     search: usize,
     notch: usize,
@@ -118,8 +111,7 @@ pub extern "C" fn khlongrae_check_carrier_metric(
     }
 }
 
-#[unsafe(no_mangle)]
-pub extern "C" fn khlongrae_check_local_maximum(values: &[f32]) -> FlatMaximum
+pub fn khlongrae_check_local_maximum(values: &[f32]) -> FlatMaximum
     ensures { result ≡ flat_maximum (maximum_of values.now) }
 {
     match carrier::maximum::check_local_maximum(values) {

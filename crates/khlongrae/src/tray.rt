@@ -9,8 +9,7 @@ use receiver::tray::{decode_tray, decode_tray_both};
 // Answers number 0 and writes for each window what khlongrae_decode answers for it, its index and the settings: 14 bytes, 11 whole numbers,
 // of which the last is the window's own number, and 2 floats; zeros where that number is not 0. Refused, with nothing written: 2 more than
 // 64 windows, numbers that are not 2,310 for each, indices that are not one for each; 3 outputs of another length; 4, 5 the settings.
-#[unsafe(no_mangle)]
-pub extern "C" fn khlongrae_tray(
+pub fn khlongrae_tray(
     count: usize,
     samples: &[f32],
     level: u32,
@@ -29,8 +28,7 @@ pub extern "C" fn khlongrae_tray(
 }
 
 // Both searches of each window: 21 bytes, 22 whole numbers and 4 floats, those of the long message and then those of the short one.
-#[unsafe(no_mangle)]
-pub extern "C" fn khlongrae_tray_both(
+pub fn khlongrae_tray_both(
     count: usize,
     samples: &[f32],
     level: u32,

@@ -1,7 +1,7 @@
 -- Every value of the type `Answer` is stored, and every one of `ShortAnswer`: what ties a value to its bytes in memory has the widths of
 -- its fields.
 -- Assumes nothing.
-use mathlib.Core.List.{List, [], ◌∷◌, map}
+use mathlib.Core.List.{List, [], ◌∷◌}
 use Prim.Native.Nat.{ℕ, zero, suc, ◌<◌}
 use native.Mathlib.Omega.{arith}
 use lib.ListN.{get_or}
@@ -18,7 +18,7 @@ use Rattle.search.specs.contracts.Answer as answer
 use Rattle.search.specs.contracts.ShortAnswer as short_answer_law
 use Rattle.listing.specs.Determines.{Stored}
 
-bytes : (xs : List ℕ) (us : List Val) → shadow (each ℕ u8.own_val (map (λ (v : ℕ). v) xs) us) → (k : ℕ) → get_or xs k 0 < 256
+bytes : (xs : List ℕ) (us : List Val) → shadow (each ℕ u8.own_val xs us) → (k : ℕ) → get_or xs k 0 < 256
 bytes [] us s k = omega arith
 bytes (x ∷ xs) [] s k = absurd s
 bytes (x ∷ xs) (u ∷ us) s zero = s.0.1

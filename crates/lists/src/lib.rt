@@ -1,1 +1,2 @@
 // Definitions and laws of lists, loops, bits and bytes; no code.
+#![tactic(auto)]

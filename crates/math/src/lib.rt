@@ -1,10 +1,12 @@
 // Complex numbers of two floats, and the parabola over three values.
+#![tactic(auto)]
+
 ghost use Rattle.std.specs.Prelude.{◌≡◌};
 ghost use Rattle.std.specs.Float.Ieee.Scale.{finite};
 ghost use Rattle.math.specs.Complex.{plus_of, norm_of};
 ghost use Rattle.math.specs.Parabola.{parabola};
 
-#[derive(Drop)]
+#[derive(Clone, Copy)]
 pub struct Complex {
     pub re: f32,
     pub im: f32,

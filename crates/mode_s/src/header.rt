@@ -10,7 +10,7 @@ ghost use Rattle.mode_s.specs.Inner.{zero_or_within, head_flip};
 use annex10::{AddressKind, Repairs, lie_inside};
 
 // What a header check answers.
-#[derive(Drop)]
+#[derive(Clone, Copy)]
 pub enum Validity {
     Valid,
     Invalid,

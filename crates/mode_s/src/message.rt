@@ -2,14 +2,14 @@
 ghost use Rattle.std.specs.Prelude.{◌≡◌};
 ghost use Rattle.mode_s.specs.Message.{short_message, long_message, num_bits};
 
-#[derive(Drop)]
+#[derive(Clone, Copy)]
 pub enum MessageKind {
     Short,
     Long,
 }
 
 // Of the bytes only the first `length` count.
-#[derive(Drop)]
+#[derive(Clone, Copy)]
 pub struct ModeSMessage {
     pub kind: MessageKind,
     pub length: usize,

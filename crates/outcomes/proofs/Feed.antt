@@ -3,27 +3,27 @@
 use mathlib.Core.Path.{refl}
 use Rattle.outcomes.specs.Outcome.{Fixed, answer}
 use Rattle.outcomes.proofs.Law.{fixes, answer-set}
-use Rattle.feed.specs.contracts.parts.start as parts-start
-use Rattle.feed.specs.contracts.parts.wanted as parts-wanted
-use Rattle.feed.specs.contracts.parts.feed as parts-feed
-use Rattle.feed.specs.contracts.parts.failed as parts-failed
+use Rattle.feed.specs.contracts.machine.start as machine-start
+use Rattle.feed.specs.contracts.machine.wanted as machine-wanted
+use Rattle.feed.specs.contracts.machine.feed as machine-feed
+use Rattle.feed.specs.contracts.machine.failed as machine-failed
 
-pub parts-start-fixed : Fixed parts-start.ended (answer _) (λ M 𝓤 𝓛. parts-start.clauses 𝓛) (λ M 𝓤 𝓛. parts-start.spec 𝓛)
-parts-start-fixed =
-    fixes parts-start.ended _ (answer-set parts-start.ended) refl (λ κs. refl)
+pub machine-start-fixed : Fixed machine-start.ended (answer _) (λ M 𝓤 𝓛. machine-start.clauses 𝓛) (λ M 𝓤 𝓛. machine-start.spec 𝓛)
+machine-start-fixed =
+    fixes machine-start.ended _ (answer-set machine-start.ended) refl (λ κs. refl)
     (λ κs a r e. r) (λ κs a y. (y, tt)) (λ κs a r ws. refl)
 
-pub parts-wanted-fixed : Fixed parts-wanted.ended (answer _) (λ M 𝓤 𝓛. parts-wanted.clauses 𝓛) (λ M 𝓤 𝓛. parts-wanted.spec 𝓛)
-parts-wanted-fixed =
-    fixes parts-wanted.ended _ (answer-set parts-wanted.ended) refl (λ κs. refl)
+pub machine-wanted-fixed : Fixed machine-wanted.ended (answer _) (λ M 𝓤 𝓛. machine-wanted.clauses 𝓛) (λ M 𝓤 𝓛. machine-wanted.spec 𝓛)
+machine-wanted-fixed =
+    fixes machine-wanted.ended _ (answer-set machine-wanted.ended) refl (λ κs. refl)
     (λ κs a r e. r) (λ κs a y. (y, (tt, tt))) (λ κs a r ws. refl)
 
-pub parts-feed-fixed : Fixed parts-feed.ended (answer _) (λ M 𝓤 𝓛. parts-feed.clauses 𝓛) (λ M 𝓤 𝓛. parts-feed.spec 𝓛)
-parts-feed-fixed =
-    fixes parts-feed.ended _ (answer-set parts-feed.ended) refl (λ κs. refl)
+pub machine-feed-fixed : Fixed machine-feed.ended (answer _) (λ M 𝓤 𝓛. machine-feed.clauses 𝓛) (λ M 𝓤 𝓛. machine-feed.spec 𝓛)
+machine-feed-fixed =
+    fixes machine-feed.ended _ (answer-set machine-feed.ended) refl (λ κs. refl)
     (λ κs a r e. r) (λ κs a y. (y, (tt, (tt, tt)))) (λ κs a r ws. refl)
 
-pub parts-failed-fixed : Fixed parts-failed.ended (answer _) (λ M 𝓤 𝓛. parts-failed.clauses 𝓛) (λ M 𝓤 𝓛. parts-failed.spec 𝓛)
-parts-failed-fixed =
-    fixes parts-failed.ended _ (answer-set parts-failed.ended) refl (λ κs. refl)
+pub machine-failed-fixed : Fixed machine-failed.ended (answer _) (λ M 𝓤 𝓛. machine-failed.clauses 𝓛) (λ M 𝓤 𝓛. machine-failed.spec 𝓛)
+machine-failed-fixed =
+    fixes machine-failed.ended _ (answer-set machine-failed.ended) refl (λ κs. refl)
     (λ κs a r e. r) (λ κs a y. (y, (tt, tt))) (λ κs a r ws. refl)

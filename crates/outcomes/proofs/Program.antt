@@ -8,4 +8,4 @@ use Rattle.program.specs.contracts.run as program-run
 pub program-run-fixed : Fixed program-run.ended (answer _) (λ M 𝓤 𝓛. program-run.clauses 𝓛) (λ M 𝓤 𝓛. program-run.spec 𝓛)
 program-run-fixed =
     fixes program-run.ended _ (answer-set program-run.ended) refl (λ κs. refl)
-    (λ κs a r e. r) (λ κs a y. (y, (tt, tt))) (λ κs a r ws. refl)
+    (λ κs a r e. r) (λ κs a y. (y, (tt, (tt, (tt, tt))))) (λ κs a r ws. refl)

@@ -5,10 +5,10 @@ use Rattle.outcomes.specs.Outcome.{Fixed, answer}
 use Rattle.outcomes.proofs.Law.{fixes, answer-set}
 use Rattle.mode_s.proofs.Told.{validity_untold, validity_back}
 use Rattle.mode_s.specs.Header.{validity_told}
-use Rattle.streams.proofs.Told.{crcUntold, crc-back}
-use Rattle.streams.proofs.Told.{distanceUntold, distance_back}
-use Rattle.streams.specs.Distances.{distanceTold}
-use Rattle.streams.specs.Remainders.{crcTold}
+use Rattle.streams.proofs.Told.{crc_untold, crc_back}
+use Rattle.streams.proofs.Told.{distance_untold, distance_back}
+use Rattle.streams.specs.Distances.{distance_told}
+use Rattle.streams.specs.Remainders.{crc_told}
 use Rattle.streams.specs.contracts.crc.compute_crc as crc-compute-crc
 use Rattle.streams.specs.contracts.crc.compute_crc_short as crc-compute-crc-short
 use Rattle.streams.specs.contracts.distance.compute_hamming_distance as distance-compute-hamming-distance
@@ -22,17 +22,17 @@ use Rattle.streams.specs.contracts.message.message_from_part_short as message-me
 pub crc-compute-crc-fixed : Fixed crc-compute-crc.ended (answer _) (λ M 𝓤 𝓛. crc-compute-crc.clauses 𝓛) (λ M 𝓤 𝓛. crc-compute-crc.spec 𝓛)
 crc-compute-crc-fixed =
     fixes crc-compute-crc.ended _ (answer-set crc-compute-crc.ended) refl (λ κs. refl)
-    (λ κs a r e. crcTold r) (λ κs a y. (crcUntold y, (tt, (tt, tt)))) (λ κs a r ws. ap (λ x. (x, ws)) (crc-back r))
+    (λ κs a r e. crc_told r) (λ κs a y. (crc_untold y, (tt, (tt, tt)))) (λ κs a r ws. ap (λ x. (x, ws)) (crc_back r))
 
 pub crc-compute-crc-short-fixed : Fixed crc-compute-crc-short.ended (answer _) (λ M 𝓤 𝓛. crc-compute-crc-short.clauses 𝓛) (λ M 𝓤 𝓛. crc-compute-crc-short.spec 𝓛)
 crc-compute-crc-short-fixed =
     fixes crc-compute-crc-short.ended _ (answer-set crc-compute-crc-short.ended) refl (λ κs. refl)
-    (λ κs a r e. crcTold r) (λ κs a y. (crcUntold y, (tt, (tt, tt)))) (λ κs a r ws. ap (λ x. (x, ws)) (crc-back r))
+    (λ κs a r e. crc_told r) (λ κs a y. (crc_untold y, (tt, (tt, tt)))) (λ κs a r ws. ap (λ x. (x, ws)) (crc_back r))
 
 pub distance-compute-hamming-distance-fixed : Fixed distance-compute-hamming-distance.ended (answer _) (λ M 𝓤 𝓛. distance-compute-hamming-distance.clauses 𝓛) (λ M 𝓤 𝓛. distance-compute-hamming-distance.spec 𝓛)
 distance-compute-hamming-distance-fixed =
     fixes distance-compute-hamming-distance.ended _ (answer-set distance-compute-hamming-distance.ended) refl (λ κs. refl)
-    (λ κs a r e. distanceTold r) (λ κs a y. (distanceUntold y, (tt, (tt, (tt, tt))))) (λ κs a r ws. ap (λ x. (x, ws)) (distance_back r))
+    (λ κs a r e. distance_told r) (λ κs a y. (distance_untold y, (tt, (tt, (tt, tt))))) (λ κs a r ws. ap (λ x. (x, ws)) (distance_back r))
 
 pub header-df-is-valid-extended-squitter-fixed : Fixed header-df-is-valid-extended-squitter.ended (answer _) (λ M 𝓤 𝓛. header-df-is-valid-extended-squitter.clauses 𝓛) (λ M 𝓤 𝓛. header-df-is-valid-extended-squitter.spec 𝓛)
 header-df-is-valid-extended-squitter-fixed =

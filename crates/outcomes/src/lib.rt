@@ -1,5 +1,7 @@
 // Every public contract fixes its outcome: the law and the table of its uses stand in proofs/.
 // `exchange` is a sample. `samples` has its code under contracts that leave something open, which are not fixed, and in other words, which is.
+#![tactic(auto)]
+
 ghost use Rattle.std.specs.Prelude.{◌≡◌};
 ghost use Rattle.outcomes.specs.Sample.{exchanged};
 

@@ -1,5 +1,7 @@
 // Parts for a location, lent from what the caller lends. A part that is refused is empty; beside each part stands its refusal's number.
 // The functions named `short` are for messages of 7 bytes, the others for those of 14.
+#![tactic(auto)]
+
 ghost use Rattle.std.specs.Prelude.{◌≡◌, ◌≤◌};
 ghost use Rattle.parts.specs.Part.{row_refusal, number_of, symbols_for, samples_for, streams_number, streams_refusal, part_size, size_told, size_to, size_at, slicer_part};
 
@@ -7,7 +9,7 @@ use place::location::Location;
 use place::{Place, Slicer};
 
 // How many bytes, or the refusal's number.
-#[derive(Drop)]
+#[derive(Clone, Copy)]
 pub enum PartSize {
     Is(usize),
     Refused(u32),

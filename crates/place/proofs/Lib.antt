@@ -4,3 +4,4 @@ pub mod Told
 pub mod All
 pub mod Cases
 pub mod Agreeing
+pub mod Carrying

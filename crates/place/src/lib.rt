@@ -1,4 +1,6 @@
 // Where a reading lies in a window, and who read its bits.
+#![tactic(auto)]
+
 pub mod location;
 
 ghost use Rattle.std.specs.Prelude.{◌≡◌};
@@ -6,14 +8,14 @@ ghost use Rattle.place.specs.Step.{starts_by, within, stepped_told, earlier_by, 
 ghost use Rattle.place.specs.All.{listed, place_below, listed_at};
 
 // Who made bits of symbols: by real part, or by norm.
-#[derive(Drop)]
+#[derive(Clone, Copy)]
 pub enum Slicer {
     Coherent,
     Noncoherent,
 }
 
 // Bit offset, clock phase, symbol offset.
-#[derive(Drop)]
+#[derive(Clone, Copy)]
 pub struct Place {
     pub bit: usize,
     pub phase: usize,
@@ -21,7 +23,7 @@ pub struct Place {
 }
 
 // A place, or the refusal's number.
-#[derive(Drop)]
+#[derive(Clone, Copy)]
 pub enum Stepped {
     To(Place),
     Refused(u32),

@@ -7,7 +7,7 @@ use crate::{Place, Slicer, Stepped};
 use annex10::{Repairs, lie_inside, repairs_of};
 
 // The place, the trial that passed there, 1 to 6, the slicer that it names and the positions that it repairs.
-#[derive(Drop)]
+#[derive(Clone, Copy)]
 pub struct Location {
     pub place: Place,
     pub trial: u8,
@@ -16,7 +16,7 @@ pub struct Location {
 }
 
 // A location, or the refusal's number.
-#[derive(Drop)]
+#[derive(Clone, Copy)]
 pub enum Neighbour {
     At(Location),
     Refused(u32),

@@ -6,7 +6,7 @@ use crate::norms::{bit_of, pulse_norm};
 use annex10::is_message;
 
 // Two steps earlier, one, one later, two. Where the number is not 0 the powers are zeros.
-#[derive(Drop)]
+#[derive(Clone, Copy)]
 pub struct Around {
     pub number: u32,
     pub earliest: f32,

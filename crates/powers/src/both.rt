@@ -6,7 +6,7 @@ use crate::norms::{bit_of, empty_norm, pulse_norm};
 use annex10::is_message;
 
 // Where the number is not 0 the powers are zeros.
-#[derive(Drop)]
+#[derive(Clone, Copy)]
 pub struct Powers {
     pub number: u32,
     pub prompt: f32,

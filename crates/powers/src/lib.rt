@@ -1,4 +1,6 @@
 // The powers of a message.
+#![tactic(auto)]
+
 pub mod around;
 pub mod both;
 mod complex;

@@ -5,7 +5,7 @@ ghost use Rattle.powers.specs.Powers.{power_of, noise_of, power_told, power_at, 
 use crate::norms::{bit_of, empty_norm, pulse_norm};
 use annex10::is_message;
 
-#[derive(Drop)]
+#[derive(Clone, Copy)]
 pub enum Power {
     Is(f32),
     Refused(u32),

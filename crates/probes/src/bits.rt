@@ -16,14 +16,13 @@ use streams::header::df_is_valid_extended_squitter;
 
 // A number 0 with the value, or a refusal's number with 0.
 #[repr(C)]
-#[derive(Drop)]
+#[derive(Clone, Copy)]
 pub struct FlatNumber {
     pub number: u32,
     pub value: u32,
 }
 
-#[unsafe(no_mangle)]
-pub extern "C" fn probe_remainder(bytes: &[u8], offset: usize) -> FlatNumber
+pub fn probe_remainder(bytes: &[u8], offset: usize) -> FlatNumber
     ensures { result ≡ flat_number (crc_at 14 bytes.now offset) }
 {
     match compute_crc(bytes, offset) {
@@ -32,8 +31,7 @@ pub extern "C" fn probe_remainder(bytes: &[u8], offset: usize) -> FlatNumber
     }
 }
 
-#[unsafe(no_mangle)]
-pub extern "C" fn probe_distance(a: &[u8], b: &[u8], offset: usize) -> FlatNumber
+pub fn probe_distance(a: &[u8], b: &[u8], offset: usize) -> FlatNumber
     ensures { result ≡ flat_number (distance_at a.now b.now offset) }
 {
     match compute_hamming_distance(a, b, offset) {
@@ -79,8 +77,7 @@ fn check(bytes: &[u8], offset: usize, repairs: Repairs) -> FlatNumber
 
 // No repair for count 0, position j for 1, both for 2. The value is 1 for a header that is taken. Refused: 2 a stream that has not
 // 18 bytes, 4 a count above 2, 7 an offset above 32, 8 a counted position above 111.
-#[unsafe(no_mangle)]
-pub extern "C" fn probe_header(bytes: &[u8], offset: usize, count: u32, j: u8, k: u8) -> FlatNumber
+pub fn probe_header(bytes: &[u8], offset: usize, count: u32, j: u8, k: u8) -> FlatNumber
     ensures { result ≡ flat_truth (counted_validity bytes.now offset count j k) }
 {
     if bytes.len() != 18 {

@@ -16,21 +16,19 @@ use slicing::slicers::demodulate;
 use slicing::undecided::{Undecided, count_undecided};
 
 #[repr(C)]
-#[derive(Drop)]
+#[derive(Clone, Copy)]
 pub struct FlatPower {
     pub number: u32,
     pub power: f32,
 }
 
-#[unsafe(no_mangle)]
-pub extern "C" fn probe_symbols(samples: &[f32], symbols: &mut [f32]) -> u32
+pub fn probe_symbols(samples: &[f32], symbols: &mut [f32]) -> u32
     ensures { (result, symbols.new) ≡ accumulated samples.now symbols.old }
 {
     accumulate_symbols(samples, symbols)
 }
 
-#[unsafe(no_mangle)]
-pub extern "C" fn probe_streams(
+pub fn probe_streams(
     row: &[f32],
     coherent: &mut [u8],
     noncoherent: &mut [u8],
@@ -58,8 +56,7 @@ fn slicer_by(noncoherent: bool) -> Slicer
 }
 
 // How many bits of a message were undecided. Refused: 2 a length that no message has.
-#[unsafe(no_mangle)]
-pub extern "C" fn probe_undecided(symbols: &[f32], noncoherent: bool) -> FlatNumber
+pub fn probe_undecided(symbols: &[f32], noncoherent: bool) -> FlatNumber
     ensures { result ≡ flat_number (undecided_of symbols.now (slicer_by noncoherent)) }
 {
     match count_undecided(symbols, slicer_by(noncoherent)) {
@@ -77,29 +74,25 @@ fn flat(power: Power) -> FlatPower
     }
 }
 
-#[unsafe(no_mangle)]
-pub extern "C" fn probe_power(symbols: &[f32], message: &[u8]) -> FlatPower
+pub fn probe_power(symbols: &[f32], message: &[u8]) -> FlatPower
     ensures { result ≡ flat_power (power_at symbols.now message.now) }
 {
     flat(postdecode_power(symbols, message))
 }
 
-#[unsafe(no_mangle)]
-pub extern "C" fn probe_noise_power(samples: &[f32], message: &[u8]) -> FlatPower
+pub fn probe_noise_power(samples: &[f32], message: &[u8]) -> FlatPower
     ensures { result ≡ flat_power (noise_power_at samples.now message.now) }
 {
     flat(postdecode_noise_power(samples, message))
 }
 
-#[unsafe(no_mangle)]
-pub extern "C" fn probe_cn0(prompt: f32, noise: f32) -> f32
+pub fn probe_cn0(prompt: f32, noise: f32) -> f32
     ensures { result ≡ cn0_of «prompt» «noise» }
 {
     cn0::estimate_cn0(prompt, noise)
 }
 
-#[unsafe(no_mangle)]
-pub extern "C" fn probe_parabola(early: f32, prompt: f32, late: f32) -> f32
+pub fn probe_parabola(early: f32, prompt: f32, late: f32) -> f32
     ensures { result ≡ parabola early prompt late }
 {
     math::parabolic_interpolation(early, prompt, late)

@@ -10,7 +10,7 @@ use repairs::{double_bit_error_from_crc24, single_bit_error_from_crc24};
 
 // Zeros where nothing is found.
 #[repr(C)]
-#[derive(Drop)]
+#[derive(Clone, Copy)]
 pub struct FlatFound {
     pub found: u32,
     pub count: u32,
@@ -57,22 +57,19 @@ fn flat_found(f: Found) -> FlatFound
     }
 }
 
-#[unsafe(no_mangle)]
-pub extern "C" fn probe_single(crc: u32) -> FlatFound
+pub fn probe_single(crc: u32) -> FlatFound
     ensures { result ≡ flat_found (clearing 14 1 crc) }
 {
     flat_found(single_bit_error_from_crc24(crc))
 }
 
-#[unsafe(no_mangle)]
-pub extern "C" fn probe_double(crc: u32) -> FlatFound
+pub fn probe_double(crc: u32) -> FlatFound
     ensures { result ≡ flat_found (clearing 14 2 crc) }
 {
     flat_found(double_bit_error_from_crc24(crc))
 }
 
-#[unsafe(no_mangle)]
-pub extern "C" fn probe_codes(crcs: &[u32], codes: &mut [u32]) -> u32
+pub fn probe_codes(crcs: &[u32], codes: &mut [u32]) -> u32
     ensures { (result, codes.new) ≡ codes_up_to_into 14 2 2 crcs.now codes.old }
 {
     bit_errors_from_crc24s(2, crcs, codes)

@@ -4,10 +4,10 @@ ghost use Rattle.program.specs.Printed.{taken_of, broken_off};
 
 use crate::text::text_of;
 use feed::State;
-use feed::parts::{failed, feed};
+use feed::machine::{failed, feed};
 use listing::Text;
 
-#[derive(Drop)]
+#[derive(Clone, Copy)]
 pub struct Step {
     pub state: State,
     pub text: Text,

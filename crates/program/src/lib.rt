@@ -1,5 +1,7 @@
 // Reads standard input in the parts that are wanted, hands each over and writes what is to be said. What that is stands in `feed`;
 // docs/WINDOWS.md has both formats. Where `slowly` is true every repair is found by trial; what is written is the same.
+#![tactic(auto)]
+
 mod handed;
 mod text;
 
@@ -10,33 +12,29 @@ ghost use Rattle.program.specs.Inner.{Within, Nearer};
 
 use crate::handed::{Step, broken_off, taken};
 use feed::State;
-use feed::parts::{start, wanted};
-use libc::{STDIN_FILENO, STDOUT_FILENO};
+use feed::machine::{start, wanted};
 use listing::Text;
+use std::io::{Read, Stdin, Stdout};
 
 // What a read brought: so many bytes, fewer than were asked for only at the end of the input, or nothing because it failed.
-#[derive(Drop)]
+#[derive(Clone, Copy)]
 enum Came {
     Bytes(usize),
     Failure,
 }
 
 // Reads until so many bytes are there, the input ends or a read fails.
-fn read_part(space: &mut [u8], wanted: usize) -> Came
+fn read_part(mut input: Stdin, space: &mut [u8], wanted: usize) -> Came
     requires { wanted ≤ length space.old }
     ensures { Within result (length space.new) }
 {
     let mut n: usize = 0;
     while n < wanted {
-        let got = libc::read(STDIN_FILENO, &mut space[n..wanted]);
-        if got < 0 {
-            return Came::Failure;
+        match input.read(&mut space[n..wanted]) {
+            Ok(0) => return Came::Bytes(n),
+            Ok(more) => n += more,
+            Err(_) => return Came::Failure,
         }
-        let more = io::count(got, &space[n..wanted]);
-        if more == 0 {
-            return Came::Bytes(n);
-        }
-        n += more;
     }
     Came::Bytes(n)
 }
@@ -49,11 +47,11 @@ fn hand_over(slowly: bool, state: State, space: &[u8], n: usize) -> Step
 }
 
 // Reads as many bytes as are wanted, and hands them over.
-fn step_in(slowly: bool, state: State, space: &mut [u8]) -> Step
+fn step_in(input: Stdin, slowly: bool, state: State, space: &mut [u8]) -> Step
     requires { length space.old ≡ 9240 }
     ensures { Nearer state result.state }
 {
-    let came = read_part(space, wanted(state));
+    let came = read_part(input, space, wanted(state));
     match came {
         Came::Bytes(n) => hand_over(slowly, state, space, n),
         Came::Failure => broken_off(slowly, state),
@@ -61,35 +59,35 @@ fn step_in(slowly: bool, state: State, space: &mut [u8]) -> Step
 }
 
 // No part is longer than the samples of a window.
-fn step(slowly: bool, state: State) -> Step
+fn step(input: Stdin, slowly: bool, state: State) -> Step
     ensures { Nearer state result.state }
 {
     let mut space = [0u8; 9240];
-    step_in(slowly, state, &mut space)
+    step_in(input, slowly, state, &mut space)
 }
 
-// The first bytes. What is said is never longer than the text that holds it.
-fn write_first(bytes: &[u8], length: usize) {
+// The first bytes. What is said is never longer than the text that holds it. What cannot be written is lost, and the program goes on.
+fn write_first(output: Stdout, bytes: &[u8], length: usize) {
     if length <= bytes.len() {
-        io::write_all(STDOUT_FILENO, &bytes[..length]);
+        let _ = output.write_all(&bytes[..length]);
     }
 }
 
-fn print(text: Text) {
+fn print(output: Stdout, text: Text) {
     let bytes = text.bytes;
-    write_first(&bytes, text.length);
+    write_first(output, &bytes, text.length);
 }
 
 // The program, to its end. A contract speaks of no input and no output: that it prints the listing is `Prints` in specs/Printed.antt. What it
 // can say is that nothing is left out at the end: the last state is the one in which all is over.
-pub fn run(slowly: bool) -> State
+pub fn run(input: Stdin, output: Stdout, slowly: bool) -> State
     ensures { result ≡ blank_of Over }
 {
     let mut state = start();
     while wanted(state) > 0 {
-        let step = step(slowly, state);
+        let step = step(input, slowly, state);
         let text = step.text;
-        print(text);
+        print(output, text);
         let next = step.state;
         state = next;
     }

@@ -35,7 +35,7 @@ use Rattle.search.specs.declared.Arrival.{Arrival}
 use Rattle.search.specs.declared.Answer.{Answer}
 use Rattle.search.specs.declared.ShortAnswer.{ShortAnswer}
 use Rattle.search.specs.declared.BothAnswers.{BothAnswers}
-use Rattle.search.specs.Choice.{candidate, candidate_at, best}
+use Rattle.search.specs.Choice.{candidate_at, best}
 use Rattle.search.specs.Window.{Window}
 use Rattle.search.specs.Kinds.{Kind, long, short}
 use Rattle.search.specs.Seen.{row, prompt_at, window_of, seen}

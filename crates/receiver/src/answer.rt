@@ -119,7 +119,7 @@ pub fn decode_in(
 }
 
 // What both searches answer: the short one's message has room for 14 bytes.
-#[derive(Drop)]
+#[derive(Clone, Copy)]
 pub struct BothIn {
     pub long: Answer,
     pub short: Answer,

@@ -1,4 +1,6 @@
 // From a window of samples to the answer.
+#![tactic(auto)]
+
 mod answer;
 mod by_trial;
 mod candidate;

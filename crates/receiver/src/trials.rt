@@ -15,7 +15,7 @@ use streams::crc::{Crc, compute_crc};
 use streams::message::extract_message;
 
 // What was tried, or the refusal's number.
-#[derive(Drop)]
+#[derive(Clone, Copy)]
 pub enum Attempt {
     Is(Tried),
     Refused(u32),

@@ -413,7 +413,7 @@ pub fn best_of_short(samples: &[f32], sums: &mut [f32], s: Settings) -> Survivor
     )
 }
 
-#[derive(Drop)]
+#[derive(Clone, Copy)]
 pub struct Both {
     pub long: Survivor,
     pub short: Survivor,

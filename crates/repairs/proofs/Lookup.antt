@@ -3,7 +3,7 @@
 use mathlib.Core.Path.{◌≡◌, sym, ap, ◌∙◌, subst}
 use mathlib.Core.List.{List}
 use mathlib.Core.Logic.{⊎_elim}
-use Prim.Native.Nat.{ℕ, zero, suc, ◌/◌, ◌^◌, ◌<◌, ◌≤◌}
+use Prim.Native.Nat.{ℕ, ◌/◌, ◌^◌, ◌<◌, ◌≤◌}
 use native.Mathlib.Nat.{eq-or-lt_of_le, le_of_eq, le_of_lt, le_antisymm}
 use native.Mathlib.Decide.{dec_lt}
 use native.Mathlib.Omega.{arith}
@@ -67,15 +67,6 @@ double_miss t u crc w p a n = sym (not_found 14 2 crc none)
         let (i, l, s) = w.there j k c.proper (ap (λ (x : ℕ). x / 2 ^ 20) c.fits) in
         nowhere t (ascends t w.rises) crc p a n i l (s ∙ c.fits)
 
--- x is none of the numbers below n
-abbrev NoneBelow : ℕ → ℕ → Type 0
-NoneBelow zero x = Unit
-NoneBelow (suc n) x = NoneBelow n x × (x ≡ n → ⊥)
-
-beyond : (n x : ℕ) → NoneBelow n x → n ≤ x
-beyond zero x h = omega arith
-beyond (suc n) x h = let l = beyond n x h.0 in omega (arith, h.1)
-
 -- a remainder of none of the sixteen parts has more than 24 bits
-pub no_part : (crc : ℕ) → NoneBelow 16 (crc / 2 ^ 20) → Nothing ≡ clearing 14 2 crc
-no_part crc h = let l = beyond 16 (crc / 2 ^ 20) h in sym (gone_high 14 crc (omega arith) 2)
+pub no_part : (crc : ℕ) → 16 ≤ crc / 2 ^ 20 → Nothing ≡ clearing 14 2 crc
+no_part crc h = sym (gone_high 14 crc (omega arith) 2)

@@ -1,5 +1,7 @@
 // The positions of one or two wrong bits of a 14-byte message, from its remainder, and of one of a 7-byte message: by sorted tables, or
 // from positions that somebody names, if they fit. And the repair of a message by the tables.
+#![tactic(auto)]
+
 mod codes;
 mod fewest;
 pub mod named;

@@ -2,14 +2,16 @@
 ghost use Rattle.std.specs.Prelude.{◌≤◌};
 
 use crate::record::{long_word, word};
+use crate::say::say;
 use annex10::Repairs;
 use place::location::Location;
 use place::{Place, Slicer};
 use search::{Answer, ShortAnswer};
+use std::io::Stdout;
 use words::float::bits_of;
 
 // What the answers of either kind have beside the message.
-#[derive(Drop)]
+#[derive(Clone, Copy)]
 struct Fields {
     number: u32,
     location: Location,
@@ -158,17 +160,17 @@ pub fn short_difference(r: &[u8; 408], a: ShortAnswer) -> u32 {
     difference(r, 336, &message, fields)
 }
 
-pub fn print_field(field: u32) {
+pub fn print_field(output: Stdout, field: u32) {
     match field {
-        1 => io::write_all(1, b"number"),
-        2 => io::write_all(1, b"place"),
-        3 => io::write_all(1, b"repairs"),
-        4 => io::write_all(1, b"slicer"),
-        5 => io::write_all(1, b"trial"),
-        6 => io::write_all(1, b"message"),
-        7 => io::write_all(1, b"cn0"),
-        8 => io::write_all(1, b"index"),
-        9 => io::write_all(1, b"fraction"),
-        _ => io::write_all(1, b"undecided"),
-    };
+        1 => say(output, b"number"),
+        2 => say(output, b"place"),
+        3 => say(output, b"repairs"),
+        4 => say(output, b"slicer"),
+        5 => say(output, b"trial"),
+        6 => say(output, b"message"),
+        7 => say(output, b"cn0"),
+        8 => say(output, b"index"),
+        9 => say(output, b"fraction"),
+        _ => say(output, b"undecided"),
+    }
 }

@@ -1,4 +1,6 @@
 // An answer in rows of lent memory. Refused: 3 memory of another length, which is left as it was.
+#![tactic(auto)]
+
 mod copies;
 pub mod row;
 

@@ -6,7 +6,7 @@ ghost use Rattle.scan.specs.Exact.{exact, exact_into};
 use crate::marks::{any, copy, gather, mark_exact};
 
 // A number, and how many places are listed; 0 with a refusal.
-#[derive(Drop)]
+#[derive(Clone, Copy)]
 pub struct Listed {
     pub number: u32,
     pub count: usize,

@@ -3,7 +3,7 @@ ghost use Rattle.std.specs.Prelude.{◌≡◌, ◌<◌, length};
 ghost use Rattle.scan.specs.Lanes.{byte_from, lane_into, first_byte};
 
 // The first byte of a message, and the refusal's number: 0 with any number but 0.
-#[derive(Drop)]
+#[derive(Clone, Copy)]
 pub struct FirstByte {
     pub number: u32,
     pub byte: u8,

@@ -1,10 +1,12 @@
 // The types of a search and of its answer. What they mean stands in specs/; no code.
+#![tactic(auto)]
+
 use place::location::Location;
 use timing::Offset;
 
 // The level is the most bits that are repaired, 0 to 2. A reading with two repairs has to reach the first threshold; if it is
 // noncoherent and the slicers differ in as many bits as the distance, also the second.
-#[derive(Drop)]
+#[derive(Clone, Copy)]
 pub struct Settings {
     pub level: u32,
     pub threshold: f32,
@@ -13,14 +15,14 @@ pub struct Settings {
 }
 
 // A trial that passed, as the location that it names: the reading of its place.
-#[derive(Drop)]
+#[derive(Clone, Copy)]
 pub enum Tried {
     Pass(Location),
     Fail,
 }
 
 // A reading, with its message, prompt power and cn0, and how many of the bits that were sliced for it were undecided.
-#[derive(Drop)]
+#[derive(Clone, Copy)]
 pub struct Candidate {
     pub location: Location,
     pub message: [u8; 14],
@@ -30,14 +32,14 @@ pub struct Candidate {
 }
 
 // The surviving reading of a place, or of all places. Number 1 is none, other numbers are refusals, with zeros.
-#[derive(Drop)]
+#[derive(Clone, Copy)]
 pub struct Survivor {
     pub number: u32,
     pub candidate: Candidate,
 }
 
 // Where the power of a message is looked at: the location, the power there, and how it lies to the message's own.
-#[derive(Drop)]
+#[derive(Clone, Copy)]
 pub struct Prompt {
     pub location: Location,
     pub power: f32,
@@ -45,7 +47,7 @@ pub struct Prompt {
 }
 
 // When a message came: the sample's index and the fraction of a sample.
-#[derive(Drop)]
+#[derive(Clone, Copy)]
 pub struct Arrival {
     pub number: u32,
     pub index: u64,
@@ -53,7 +55,7 @@ pub struct Arrival {
 }
 
 // What a decode answers. Where the number is not 0 the other fields are zeros, coherent and no repairs.
-#[derive(Drop)]
+#[derive(Clone, Copy)]
 pub struct Answer {
     pub number: u32,
     pub location: Location,
@@ -65,7 +67,7 @@ pub struct Answer {
 }
 
 // The same for short messages: 7 bytes.
-#[derive(Drop)]
+#[derive(Clone, Copy)]
 pub struct ShortCandidate {
     pub location: Location,
     pub message: [u8; 7],
@@ -74,13 +76,13 @@ pub struct ShortCandidate {
     pub undecided: u32,
 }
 
-#[derive(Drop)]
+#[derive(Clone, Copy)]
 pub struct ShortSurvivor {
     pub number: u32,
     pub candidate: ShortCandidate,
 }
 
-#[derive(Drop)]
+#[derive(Clone, Copy)]
 pub struct ShortAnswer {
     pub number: u32,
     pub location: Location,
@@ -92,7 +94,7 @@ pub struct ShortAnswer {
 }
 
 // Both searches of one window.
-#[derive(Drop)]
+#[derive(Clone, Copy)]
 pub struct BothAnswers {
     pub long: Answer,
     pub short: ShortAnswer,

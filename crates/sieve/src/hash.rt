@@ -6,7 +6,7 @@ use crate::own::{two_displacements, two_owners};
 use crate::tables::{ONE_DISPLACEMENTS, ONE_OWNERS, ONE_POSITIONS};
 
 // Which bits of a remainder choose the displacement, which the slot, and which are the owner's.
-#[derive(Drop)]
+#[derive(Clone, Copy)]
 pub struct Shape {
     pub index: u32,
     pub shift: u32,

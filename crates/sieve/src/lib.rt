@@ -1,6 +1,8 @@
 // The places whose remainders at least one repair and at most so many can clear. A hash lets them through, and what clears is asked for
 // those alone. A caller may lend the hash: then its slots name what may clear, and no table is written out. Else it is written out at each
 // call, and so are the sorted tables that are asked.
+#![tactic(auto)]
+
 mod find;
 pub mod hash;
 mod keep;

@@ -1,4 +1,6 @@
 // From symbols to bits, and which of them were undecided.
+#![tactic(auto)]
+
 mod measure;
 pub mod slicers;
 pub mod undecided;

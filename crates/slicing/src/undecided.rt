@@ -5,7 +5,7 @@ ghost use Rattle.slicing.specs.Undecided.{undecided_in, undecided_told, undecide
 use crate::measure::{mark_of_pair, measure_at};
 use place::Slicer;
 
-#[derive(Drop)]
+#[derive(Clone, Copy)]
 pub enum Undecided {
     Is(u32),
     Refused(u32),

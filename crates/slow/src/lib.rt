@@ -1,5 +1,7 @@
 // The repair that anyone can read. Positions of the message are turned over: none, then each in turn, then each pair in order. After each
 // choice the message is divided, and the first that leaves the remainder 0 is the answer. Nothing is looked up.
+#![tactic(auto)]
+
 ghost use Rattle.std.specs.Prelude.{◌≡◌, true, ◌*◌, ◌<◌, ◌≤◌, min, eqb, length};
 ghost use Rattle.annex10.specs.declared.Repairs.TheVariants.{Two};
 ghost use Rattle.annex10.specs.Length.{message_length};

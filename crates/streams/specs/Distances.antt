@@ -17,9 +17,9 @@ unfoldable pub pair_number : List ℕ → List ℕ → ℕ → ℕ
 pair_number a b offset = cond (eqb (length a) 18) (stream_number 14 b offset) 2
 
 -- an answer: its number, and the distance with number 0
-abbrev pub distanceTold : Distance → Told ℕ
-distanceTold (Is d) = done d
-distanceTold (Refused n) = refused n
+abbrev pub distance_told : Distance → Told ℕ
+distance_told (Is d) = done d
+distance_told (Refused n) = refused n
 
 -- in how many of the 112 positions the messages of two streams at a bit offset differ
 unfoldable pub distance_at : List ℕ → List ℕ → ℕ → Told ℕ

@@ -8,9 +8,9 @@ use Rattle.streams.specs.declared.crc.Crc.TheVariants.{Is, Refused}
 use Rattle.streams.specs.Streams.{message_at, stream_number}
 
 -- an answer: its number, and the remainder with number 0
-abbrev pub crcTold : Crc → Told ℕ
-crcTold (Is r) = done r
-crcTold (Refused n) = refused n
+abbrev pub crc_told : Crc → Told ℕ
+crc_told (Is r) = done r
+crc_told (Refused n) = refused n
 
 -- the remainder of the message of n bytes at a bit offset
 unfoldable pub crc_at : ℕ → List ℕ → ℕ → Told ℕ

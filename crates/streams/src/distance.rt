@@ -1,12 +1,12 @@
 // In how many bits the messages of two streams differ.
 ghost use Rattle.std.specs.Prelude.{◌≡◌, ◌+◌, ◌*◌, ◌≤◌, length};
-ghost use Rattle.streams.specs.Distances.{differing, distanceTold, distance_at};
+ghost use Rattle.streams.specs.Distances.{differing, distance_told, distance_at};
 ghost use Rattle.streams.specs.Streams.{message_at};
 
 use crate::bits::byte_at;
 use crate::refusal::stream_number;
 
-#[derive(Drop)]
+#[derive(Clone, Copy)]
 pub enum Distance {
     Is(u32),
     Refused(u32),
@@ -26,7 +26,7 @@ fn differing_bits(a: &[u8], b: &[u8], offset: usize, n: usize) -> u32
 }
 
 pub fn compute_hamming_distance(a: &[u8], b: &[u8], offset: usize) -> Distance
-    ensures { distanceTold result ≡ distance_at a.now b.now offset }
+    ensures { distance_told result ≡ distance_at a.now b.now offset }
 {
     if a.len() != 18 {
         return Distance::Refused(2);

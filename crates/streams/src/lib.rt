@@ -1,4 +1,6 @@
 // What is read off a stream of bits from a bit offset on.
+#![tactic(auto)]
+
 mod bits;
 pub mod crc;
 pub mod distance;

@@ -8,13 +8,13 @@ use crate::refusal::{part_number, stream_number};
 use parts::{PartSize, part_size, part_size_short};
 
 // The bytes are zeros where the call is refused.
-#[derive(Drop)]
+#[derive(Clone, Copy)]
 pub struct Message {
     pub number: u32,
     pub bytes: [u8; 14],
 }
 
-#[derive(Drop)]
+#[derive(Clone, Copy)]
 pub struct ShortMessage {
     pub number: u32,
     pub bytes: [u8; 7],

@@ -7,7 +7,7 @@ use Prim.Native.Nat.{ℕ, suc, ◌+◌, ◌-◌, ◌<◌, ◌≤◌}
 use native.Mathlib.Omega.{arith}
 use lib.Dec.{T, ltb, ltb→lt, nltb→le}
 use lib.IntN.{ℤ, pos, negsuc, ◌+ℤ◌, pos-ne-negsuc}
-use lib.Ieee.{Float, nan, binary32, fits, lt, le, is_nan}
+use lib.Ieee.{Float, nan, binary32, fits, le, is_nan}
 use Rattle.floats.proofs.Nan.{nan_is, le_number_r}
 use Rattle.floats.proofs.Integers.{sub_ge, sub_lt}
 use Rattle.timing.specs.declared.Moves.TheVariants.{Back, On}

@@ -1,4 +1,6 @@
 // Subsample timing: the fraction of a sample, and the whole samples that move between it and the index.
+#![tactic(auto)]
+
 mod turns;
 
 ghost use Rattle.std.specs.Prelude.{◌≡◌, true};
@@ -6,7 +8,7 @@ ghost use Rattle.timing.specs.Subsample.{held, offset_of, fraction_of, timing_of
 ghost use Rattle.timing.specs.Inner.{in_range};
 
 // Which place is the prompt: the reading's own, or a neighbour with more power.
-#[derive(Drop)]
+#[derive(Clone, Copy)]
 pub enum Offset {
     Earlier,
     Same,
@@ -14,13 +16,13 @@ pub enum Offset {
 }
 
 // By how many samples the index moves. No move is `On(0)`.
-#[derive(Drop)]
+#[derive(Clone, Copy)]
 pub enum Moves {
     Back(u64),
     On(u64),
 }
 
-#[derive(Drop)]
+#[derive(Clone, Copy)]
 pub struct Timing {
     pub moves: Moves,
     pub fraction: f32,

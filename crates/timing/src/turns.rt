@@ -3,7 +3,7 @@ ghost use Rattle.std.specs.Prelude.{◌≡◌, true, ◌≤◌, ◌<◌, ◌+◌
 ghost use Rattle.timing.specs.Subsample.{after_moves, gained};
 ghost use Rattle.timing.specs.Inner.{in_range};
 
-#[derive(Drop)]
+#[derive(Clone, Copy)]
 pub struct Turned {
     pub index: u64,
     pub fraction: f32,

@@ -1,9 +1,12 @@
 // Runs published messages, a line of 28 hex digits each, through remainder, header, text and repair. Each message is damaged at
 // each of its positions, and at 112 pairs of them, and counts where the repair finds the damage and gives the message back.
+#![tactic(auto)]
+
 ghost use Rattle.std.specs.Prelude.{◌<◌};
 
 use annex10::{Found, Repairs};
 use mode_s::header::Validity;
+use std::io::{Read, Stdin, Stdout};
 
 fn nibble(c: u8) -> u8
     ensures { result < 16 }
@@ -106,42 +109,54 @@ fn all_doubles(message: [u8; 14]) -> u64 {
     n
 }
 
-fn print_crc(crc: u32) {
-    io::print_hex(1, crc as u64, 6);
+// What cannot be written is lost, and the rest is tried all the same.
+fn say(output: Stdout, bytes: &[u8]) {
+    let _ = output.write_all(bytes);
 }
 
-fn print_validity(v: Validity) {
+fn say_number(output: Stdout, n: u64) {
+    let _ = output.print(n);
+}
+
+fn print_crc(output: Stdout, crc: u32) {
+    let _ = print!(output; "{crc:06x}");
+}
+
+fn print_validity(output: Stdout, v: Validity) {
     match v {
-        Validity::Valid => io::write_all(1, b" valid"),
-        Validity::Invalid => io::write_all(1, b" invalid"),
-        Validity::Refused(_) => io::write_all(1, b" refused"),
-    };
+        Validity::Valid => say(output, b" valid"),
+        Validity::Invalid => say(output, b" invalid"),
+        Validity::Refused(_) => say(output, b" refused"),
+    }
 }
 
-fn print_message(message: [u8; 14]) {
+fn print_message(output: Stdout, message: [u8; 14]) {
     let mut text = [0u8; 30];
     mode_s::avr::format_avr(&message, &mut text);
-    io::write_all(1, &text);
-    io::write_all(1, b" ");
-    print_crc(mode_s::crc::crc24(&message));
-    print_validity(mode_s::header::header_is_valid(message[0], Repairs::None));
-    io::write_all(1, b" singles ");
-    io::print_decimal(1, singles(message));
-    io::write_all(1, b" doubles ");
-    io::print_decimal(1, doubles(message));
-    io::write_all(1, b"\n");
+    say(output, &text);
+    say(output, b" ");
+    print_crc(output, mode_s::crc::crc24(&message));
+    print_validity(
+        output,
+        mode_s::header::header_is_valid(message[0], Repairs::None),
+    );
+    say(output, b" singles ");
+    say_number(output, singles(message));
+    say(output, b" doubles ");
+    say_number(output, doubles(message));
+    say(output, b"\n");
 }
 
-#[derive(Drop)]
+#[derive(Clone, Copy)]
 struct Next {
     more: bool,
     message: [u8; 14],
 }
 
 // The message of the next line, until there is none.
-fn next_message() -> Next {
+fn next_message(mut input: Stdin) -> Next {
     let mut line = [0u8; 29];
-    if io::read_full(0, &mut line) != 29 {
+    if input.read_exact(&mut line).is_err() {
         return Next {
             more: false,
             message: [0u8; 14],
@@ -153,22 +168,24 @@ fn next_message() -> Next {
     }
 }
 
-fn main() {
-    io::write_all(1, b"check ");
-    print_crc(mode_s::crc::crc24(b"123456789"));
-    io::write_all(1, b"\n");
+fn main(rt: HostRuntime) {
+    let input = rt.stdin();
+    let output = rt.stdout();
+    say(output, b"check ");
+    print_crc(output, mode_s::crc::crc24(b"123456789"));
+    say(output, b"\n");
     let mut last = [0u8; 14];
     let mut n: u32 = 0;
     while n < 64 {
-        let next = next_message();
+        let next = next_message(input);
         if !next.more {
             break;
         }
         last = next.message;
-        print_message(last);
+        print_message(output, last);
         n += 1;
     }
-    io::write_all(1, b"all doubles of the last ");
-    io::print_decimal(1, all_doubles(last));
-    io::write_all(1, b"\n");
+    say(output, b"all doubles of the last ");
+    say_number(output, all_doubles(last));
+    say(output, b"\n");
 }

@@ -1,6 +1,8 @@
 // Writes the same listing as `windows`, with every repair found by trial.
+#![tactic(auto)]
+
 use program::run;
 
-fn main() {
-    run(true);
+fn main(rt: HostRuntime) {
+    run(rt.stdin(), rt.stdout(), true);
 }

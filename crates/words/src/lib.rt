@@ -1,4 +1,6 @@
 // Numbers and floats as bytes, the lowest byte first.
+#![tactic(auto)]
+
 pub mod float;
 mod join;
 pub mod numbers;

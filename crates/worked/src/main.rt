@@ -1,16 +1,18 @@
 // Three worked windows, step by step and decoded. The first holds one message without noise. In the second the slicers disagree at one
 // place, so that trial 4 clears the noncoherent bits, fails at their header, and trial 5 has to go back to the coherent bits. The third is
 // the first with five bits of which nothing came in.
+#![tactic(auto)]
+
 ghost use Rattle.std.specs.Prelude.{◌≡◌, ◌≤◌, ◌<◌, length};
 
 use annex10::Repairs;
 use kernels::symbols::accumulate_symbols;
-use libc::STDOUT_FILENO;
 use mode_s::avr::format_avr;
 use place::Slicer;
 use receiver::decode::decode;
 use search::{Answer, Settings};
 use slicing::slicers::demodulate;
+use std::io::Stdout;
 use streams::crc::{Crc, compute_crc};
 use streams::message::extract_message;
 
@@ -26,40 +28,49 @@ fn pulse(samples: &mut [f32; 2310], start: usize)
     }
 }
 
-fn print_message(bytes: [u8; 14]) {
+// What cannot be written is lost, and the rest is tried all the same.
+fn say(output: Stdout, bytes: &[u8]) {
+    let _ = output.write_all(bytes);
+}
+
+fn say_number(output: Stdout, n: u64) {
+    let _ = output.print(n);
+}
+
+fn print_message(output: Stdout, bytes: [u8; 14]) {
     let mut line = [0u8; 30];
     format_avr(&bytes, &mut line);
-    io::write_all(STDOUT_FILENO, &line);
+    say(output, &line);
 }
 
 // The message at a bit offset, and its remainder.
-fn show_stream(stream: &[u8], bit: usize) {
+fn show_stream(output: Stdout, stream: &[u8], bit: usize) {
     let message = extract_message(stream, bit);
     let bytes = message.bytes;
-    print_message(bytes);
+    print_message(output, bytes);
     match compute_crc(stream, bit) {
         Crc::Is(r) => {
-            io::write_all(STDOUT_FILENO, b" remainder ");
-            io::print_decimal(STDOUT_FILENO, r as u64);
+            say(output, b" remainder ");
+            say_number(output, r as u64);
         }
         Crc::Refused(n) => {
-            io::write_all(STDOUT_FILENO, b" refused ");
-            io::print_decimal(STDOUT_FILENO, n as u64);
+            say(output, b" refused ");
+            say_number(output, n as u64);
         }
     }
 }
 
 // The marks of its undecided bits, in the form of a message.
-fn show_marks(marks: &[u8], bit: usize) {
+fn show_marks(output: Stdout, marks: &[u8], bit: usize) {
     let message = extract_message(marks, bit);
     let bytes = message.bytes;
-    io::write_all(STDOUT_FILENO, b" undecided ");
-    print_message(bytes);
-    io::write_all(STDOUT_FILENO, b"\n");
+    say(output, b" undecided ");
+    print_message(output, bytes);
+    say(output, b"\n");
 }
 
 // The coherent stream of a symbol offset, of the symbols of one phase.
-fn show(row: &[f32], bit: usize, symbol: usize)
+fn show(output: Stdout, row: &[f32], bit: usize, symbol: usize)
     requires { symbol ≤ 1 }
 {
     let mut coherent = [0u8; 36];
@@ -75,24 +86,24 @@ fn show(row: &[f32], bit: usize, symbol: usize)
     );
     let from = 18 * symbol;
     let to = from + 18;
-    show_stream(&coherent[from..to], bit);
-    show_marks(&coherent_marks[from..to], bit);
+    show_stream(output, &coherent[from..to], bit);
+    show_marks(output, &coherent_marks[from..to], bit);
 }
 
 // The rows of two phases.
-fn show_places(symbols: &[f32])
+fn show_places(output: Stdout, symbols: &[f32])
     requires { length symbols.now ≡ 2304 }
 {
-    io::write_all(STDOUT_FILENO, b"15 3 1 ");
-    show(&symbols[1728..2304], 15, 1);
-    io::write_all(STDOUT_FILENO, b"16 0 0 ");
-    show(&symbols[0..576], 16, 0);
+    say(output, b"15 3 1 ");
+    show(output, &symbols[1728..2304], 15, 1);
+    say(output, b"16 0 0 ");
+    show(output, &symbols[0..576], 16, 0);
 }
 
-fn read(samples: &[f32; 2310]) {
+fn read(output: Stdout, samples: &[f32; 2310]) {
     let mut symbols = [0.0f32; 2304];
     accumulate_symbols(samples, &mut symbols);
-    show_places(&symbols);
+    show_places(output, &symbols);
 }
 
 // The bits that the two slicers are to read in the second window.
@@ -147,72 +158,72 @@ fn blank(samples: &mut [f32; 2310], start: usize)
     }
 }
 
-fn print_word(n: u64) {
-    io::write_all(STDOUT_FILENO, b" ");
-    io::print_decimal(STDOUT_FILENO, n);
+fn print_word(output: Stdout, n: u64) {
+    say(output, b" ");
+    say_number(output, n);
 }
 
 fn wide(x: u8) -> u64 {
     x as u64
 }
 
-fn print_repairs(repairs: Repairs) {
+fn print_repairs(output: Stdout, repairs: Repairs) {
     match repairs {
         Repairs::None => {
-            io::write_all(STDOUT_FILENO, b" none");
+            say(output, b" none");
         }
-        Repairs::One(j) => print_word(wide(j)),
+        Repairs::One(j) => print_word(output, wide(j)),
         Repairs::Two(j, k) => {
-            print_word(wide(j));
-            print_word(wide(k));
+            print_word(output, wide(j));
+            print_word(output, wide(k));
         }
     }
 }
 
-fn print_slicer(slicer: Slicer) {
+fn print_slicer(output: Stdout, slicer: Slicer) {
     match slicer {
-        Slicer::Coherent => io::write_all(STDOUT_FILENO, b" coherent"),
-        Slicer::Noncoherent => io::write_all(STDOUT_FILENO, b" noncoherent"),
-    };
+        Slicer::Coherent => say(output, b" coherent"),
+        Slicer::Noncoherent => say(output, b" noncoherent"),
+    }
 }
 
 // Whether it is above every finite number, and the fraction in halves.
-fn print_floats(cn0: f32, fraction: f32) {
+fn print_floats(output: Stdout, cn0: f32, fraction: f32) {
     if cn0 == 1.0 / 0.0 {
-        io::write_all(STDOUT_FILENO, b" cn0 infinite");
+        say(output, b" cn0 infinite");
     } else {
-        io::write_all(STDOUT_FILENO, b" cn0 finite");
+        say(output, b" cn0 finite");
     }
     if fraction == -0.5 {
-        io::write_all(STDOUT_FILENO, b" fraction -0.5");
+        say(output, b" fraction -0.5");
     } else {
-        io::write_all(STDOUT_FILENO, b" fraction other");
+        say(output, b" fraction other");
     }
 }
 
-fn print_answer(a: Answer) {
-    io::write_all(STDOUT_FILENO, b"decoded");
-    print_word(a.number as u64);
+fn print_answer(output: Stdout, a: Answer) {
+    say(output, b"decoded");
+    print_word(output, a.number as u64);
     let location = a.location;
     let place = location.place;
-    print_word(place.bit as u64);
-    print_word(place.phase as u64);
-    print_word(place.symbol as u64);
-    io::write_all(STDOUT_FILENO, b" ");
+    print_word(output, place.bit as u64);
+    print_word(output, place.phase as u64);
+    print_word(output, place.symbol as u64);
+    say(output, b" ");
     let bytes = a.message;
-    print_message(bytes);
+    print_message(output, bytes);
     let repairs = location.repairs;
-    print_repairs(repairs);
+    print_repairs(output, repairs);
     let slicer = location.slicer;
-    print_slicer(slicer);
-    print_floats(a.cn0, a.fraction);
-    io::write_all(STDOUT_FILENO, b" index");
-    print_word(a.index);
-    io::write_all(STDOUT_FILENO, b" undecided");
-    print_word(a.undecided as u64);
-    io::write_all(STDOUT_FILENO, b" trial");
-    print_word(wide(location.trial));
-    io::write_all(STDOUT_FILENO, b"\n");
+    print_slicer(output, slicer);
+    print_floats(output, a.cn0, a.fraction);
+    say(output, b" index");
+    print_word(output, a.index);
+    say(output, b" undecided");
+    print_word(output, a.undecided as u64);
+    say(output, b" trial");
+    print_word(output, wide(location.trial));
+    say(output, b"\n");
 }
 
 fn settings() -> Settings {
@@ -224,20 +235,21 @@ fn settings() -> Settings {
     }
 }
 
-fn show_answer(samples: &[f32; 2310]) {
-    print_answer(decode(samples, settings(), 128));
+fn show_answer(output: Stdout, samples: &[f32; 2310]) {
+    print_answer(output, decode(samples, settings(), 128));
 }
 
-fn main() {
+fn main(rt: HostRuntime) {
+    let output = rt.stdout();
     let mut samples = [0.0f32; 2310];
     send_both(&SENT, &SENT, &mut samples);
-    read(&samples);
-    show_answer(&samples);
+    read(output, &samples);
+    show_answer(output, &samples);
     let mut other = [0.0f32; 2310];
     send_both(&COHERENT, &NONCOHERENT, &mut other);
-    show_answer(&other);
+    show_answer(output, &other);
     // Bits 40 to 44 of the message, which are 0.
     blank(&mut samples, 448);
-    read(&samples);
-    show_answer(&samples);
+    read(output, &samples);
+    show_answer(output, &samples);
 }

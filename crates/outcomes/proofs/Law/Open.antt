@@ -6,8 +6,8 @@ use seplogic.Bi.Sat.{Sat}
 use base.Logic.{emp}
 use ghost.Model as Closed
 use contract.BorrowModel.{logic₀}
+use contract.Closed.{model⁺, real⁺}
 use contract.Monad.{fact}
-use contract.Running.{real}
 use denote.Triple.Clauses.{Ended, ClausesAt}
 use Rattle.outcomes.specs.Outcome.{Clause, Contract, Lifetimes, Given, Sight, FixedAt, Fixed}
 use Rattle.outcomes.specs.Open.{OpenAt, LeftOutAt, Open, LeftOut}
@@ -31,13 +31,13 @@ module _ (T : Ended) (s : Sight T) where
 
   -- `Fixed` speaks of every model: there is one, in which the machine runs
   at-closed : {c : Clause T} {contract : Contract T} (κs : Lifetimes T) (a : Given T κs) → Fixed T s c contract
-      → FixedAt T s Closed.𝓤 κs a (c _ Closed.𝓤 logic₀ (Closed.model).mem (real Closed.𝓤 Closed.H Closed.model).run κs a)
-  at-closed κs a f = f.fixed _ Closed.𝓤 logic₀ (Closed.model).mem (real Closed.𝓤 Closed.H Closed.model).run κs a
+      → FixedAt T s Closed.𝓤 κs a (c _ Closed.𝓤 logic₀ model⁺.mem real⁺.run κs a)
+  at-closed κs a f = f.fixed _ Closed.𝓤 logic₀ model⁺.mem real⁺.run κs a
 
   -- of a contract, where there is a call
   pub open-not-fixed : {c : Clause T} {contract : Contract T} (κs : Lifetimes T) → Given T κs → Open T s c → ¬ Fixed T s c contract
-  open-not-fixed κs a o f = open_at _ κs a _ (o _ _ _ _ _ _ κs a) (at-closed κs a f)
+  open-not-fixed κs a o f = open_at _ κs a _ (o _ _ _ _ _ κs a) (at-closed κs a f)
 
   pub left-out-not-fixed : {such : (κs : Lifetimes T) → Given T κs → Type 0} {c : Clause T} {contract : Contract T} (κs : Lifetimes T) (a : Given T κs) → such κs a
       → LeftOut T such c → ¬ Fixed T s c contract
-  left-out-not-fixed κs a is l f = left-out-at _ κs a _ (l _ _ _ _ _ _ κs a is) (at-closed κs a f)
+  left-out-not-fixed κs a is l f = left-out-at _ κs a _ (l _ _ _ _ _ κs a is) (at-closed κs a f)

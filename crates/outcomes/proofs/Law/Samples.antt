@@ -22,10 +22,10 @@ use Rattle.outcomes.specs.contracts.samples.reworded as reworded
 
 -- a call: a byte that holds 0 is lent, and 0 is given
 abbrev call : Given memory-open.ended ([], tt)
-call = (record { ref_ptr = (0, 0); now = 0 }, (0, tt))
+call = (record { ref_ptr = (0, 0); ghost_name = 0; now = 0 }, (0, tt))
 
 -- the byte that was held is answered, and 0 or 1 is left
-pub memory-is-open : Open memory-open.ended (answer _) (λ M 𝓤 H. memory-open.clauses 𝓤 H)
+pub memory-is-open : Open memory-open.ended (answer _) (λ M 𝓤 𝓛. memory-open.clauses 𝓛)
 memory-is-open M 𝓤 𝓛 mem run κs a = record {
   r = a.0.now;
   r' = a.0.now;
@@ -40,7 +40,7 @@ pub memory-not-fixed : ¬ Fixed memory-open.ended (answer _) (λ M 𝓤 𝓛. me
 memory-not-fixed = open-not-fixed memory-open.ended _ ([], tt) call memory-is-open
 
 -- 0 or 1 is answered, and the new byte is left
-pub answer-is-open : Open answer-open.ended (answer _) (λ M 𝓤 H. answer-open.clauses 𝓤 H)
+pub answer-is-open : Open answer-open.ended (answer _) (λ M 𝓤 𝓛. answer-open.clauses 𝓛)
 answer-is-open M 𝓤 𝓛 mem run κs a = record {
   r = 0;
   r' = 1;
@@ -55,7 +55,7 @@ pub answer-not-fixed : ¬ Fixed answer-open.ended (answer _) (λ M 𝓤 𝓛. an
 answer-not-fixed = open-not-fixed answer-open.ended _ ([], tt) call answer-is-open
 
 -- every call that gives another byte than 1 is left out
-pub calls-are-left-out : LeftOut calls-left-out.ended (λ κs a. a.1.0 ≢ 1) (λ M 𝓤 H. calls-left-out.clauses 𝓤 H)
+pub calls-are-left-out : LeftOut calls-left-out.ended (λ κs a. a.1.0 ≢ 1) (λ M 𝓤 𝓛. calls-left-out.clauses 𝓛)
 calls-are-left-out M 𝓤 𝓛 mem run κs a other = record { asked = tt; cannot = λ s. ∥∥₁_elim (sat_fact 𝓤 _ s) ⊥_prop other }
 
 pub calls-not-fixed : ¬ Fixed calls-left-out.ended (answer _) (λ M 𝓤 𝓛. calls-left-out.clauses 𝓛) (λ M 𝓤 𝓛. calls-left-out.spec 𝓛)

@@ -1,0 +1,14 @@
+-- `listing::put::put_bytes` meets its contract. The loop's invariant: with the digits of what is left the text is what it is to be.
+-- Assumes nothing.
+use Prim.Native.Nat.{◌-◌, ◌≤◌}
+use mathlib.Core.Path.{◌≡◌}
+use lib.ListN.{length, drop}
+use Rattle.mode_s.specs.Avr.{hex_text}
+use Rattle.listing.specs.Inner.{puts}
+use Rattle.listing.proofs.put.put_bytes.Given as goal
+
+abbrev pub invariant-loop-i : goal.invariant-loop-i
+invariant-loop-i l = (l.i ≤ length l.bytes) × (puts l.text (hex_text (drop l.i l.bytes)) ≡ puts l.initial.text (hex_text l.bytes))
+
+abbrev pub decreases-loop-i : goal.decreases-loop-i
+decreases-loop-i l = length l.bytes - l.i

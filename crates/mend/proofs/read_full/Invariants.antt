@@ -1,0 +1,10 @@
+-- `mend::read_full` is safe and ends.
+-- Assumes nothing.
+use Rattle.std.proofs.Common.{◌-◌, ◌≤◌}
+use Rattle.mend.proofs.read_full.Given as goal
+
+abbrev pub invariant-loop-n : goal.invariant-loop-n
+invariant-loop-n l = l.n ≤ 65
+
+abbrev pub decreases-loop-n : goal.decreases-loop-n
+decreases-loop-n l = 65 - l.n

@@ -1,0 +1,8 @@
+-- `place::Place::later` meets its contract: its body's, at 14 bytes.
+-- Assumes nothing.
+use Rattle.place.specs.Step.{later_of}
+use Rattle.place.proofs.Place.later.Goals as goal
+
+pub returns : goal.returns
+unfolding later_of
+returns c = c.later_by.ensures

@@ -1,0 +1,11 @@
+-- `receiver::window::reading_at_short` meets its contract: the window is scanned. Assumes nothing.
+use mathlib.Core.Path.{refl}
+use Rattle.search.specs.Kinds.{short}
+use Rattle.receiver.proofs.Finding.{scan_done}
+use Rattle.receiver.proofs.window.reading_at_short.Goals as goal
+
+pub read_alone-requires : goal.read_alone-requires
+unfolding short
+read_alone-requires c =
+    let w = scan_done short _ _ _ _ _ _ c.requires.0 refl refl refl refl refl c.scan_short.ensures in
+    (w.0, c.requires.1, c.requires.2, w.1)

@@ -1,0 +1,13 @@
+-- `sieve::hash::put_owners` meets its contract. The loop: the first i are copied. Assumes nothing.
+use Rattle.std.proofs.Common.{refl, arith, rules}
+use Rattle.lists.proofs.Table.{done_none, done_more, copied}
+use Rattle.sieve.proofs.hash.put_owners.Goals as goal
+
+pub loop-i-init : goal.loop-i-init
+loop-i-init c = (search rules, done_none _ _ _ _ c.requires)
+
+pub loop-i-preserved : goal.loop-i-preserved
+loop-i-preserved c = (search rules, done_more _ _ _ _ _ _ (omega arith) c.loop-i.invariant.1 refl)
+
+pub returns : goal.returns
+returns c = copied _ _ _ _ _ refl (omega arith) c.loop-i.invariant.1

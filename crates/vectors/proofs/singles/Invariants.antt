@@ -1,0 +1,10 @@
+-- `vectors::singles` is safe and ends.
+-- Assumes nothing.
+use Rattle.std.proofs.Common.{◌-◌, ◌≤◌}
+use Rattle.vectors.proofs.singles.Given as goal
+
+abbrev pub invariant-loop-j : goal.invariant-loop-j
+invariant-loop-j l = l.j ≤ 112
+
+abbrev pub decreases-loop-j : goal.decreases-loop-j
+decreases-loop-j l = 112 - l.j

@@ -13,4 +13,3 @@ pub mod UpTo
 pub mod Length
 pub mod Shifts
 pub mod Mending
-pub mod Told

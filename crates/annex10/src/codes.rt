@@ -9,11 +9,9 @@ pub fn code_of(found: Found) -> u32
     ensures { result ≡ code_of found }
 {
     match found {
-        Found::At(repairs) => match repairs {
-            Repairs::None => 0xffff,
-            Repairs::One(j) => j as u32 * 256 + 255,
-            Repairs::Two(j, k) => j as u32 * 256 + k as u32,
-        },
+        Found::At(Repairs::None) => 0xffff,
+        Found::At(Repairs::One(j)) => j as u32 * 256 + 255,
+        Found::At(Repairs::Two(j, k)) => j as u32 * 256 + k as u32,
         Found::Nothing => 0x10000,
     }
 }

@@ -6,11 +6,11 @@ pub mod codes;
 pub mod division;
 
 ghost use Rattle.std.specs.Prelude.{◌≡◌, ◌*◌, ltb};
-ghost use Rattle.annex10.specs.Length.{message_length};
+ghost use Rattle.annex10.specs.Length.{message_length, message_bytes, most_repairs};
 ghost use Rattle.annex10.specs.Repair.{count, inside};
 
 // At most two positions of a message, whose bits are turned over.
-#[derive(Clone, Copy)]
+#[derive(Clone, Copy, Debug, PartialEq, Eq)]
 pub enum Repairs {
     None,
     One(u8),
@@ -18,21 +18,14 @@ pub enum Repairs {
 }
 
 // What a search for positions finds.
-#[derive(Clone, Copy)]
+#[derive(Clone, Copy, Debug, PartialEq, Eq)]
 pub enum Found {
     At(Repairs),
     Nothing,
 }
 
-// What a repair of a message answers.
-#[derive(Clone, Copy)]
-pub enum Mended {
-    Is(Found),
-    Refused(u32),
-}
-
 // What the three bytes behind a first byte are.
-#[derive(Clone, Copy)]
+#[derive(Clone, Copy, Debug, PartialEq, Eq)]
 pub enum AddressKind {
     Icao,
     Other,
@@ -40,14 +33,40 @@ pub enum AddressKind {
     NoAddress,
 }
 
+// A message of either kind.
+#[derive(Clone, Copy, Debug, PartialEq, Eq)]
+pub enum MessageKind {
+    Short,
+    Long,
+}
+
+impl MessageKind {
+    pub fn bytes(self) -> usize
+        ensures { result ≡ message_bytes self }
+    {
+        match self {
+            MessageKind::Short => 7,
+            MessageKind::Long => 14,
+        }
+    }
+
+    // The most positions that are repaired.
+    pub fn most(self) -> u32
+        ensures { result ≡ most_repairs self }
+    {
+        match self {
+            MessageKind::Short => 1,
+            MessageKind::Long => 2,
+        }
+    }
+}
+
 // A message has 7 bytes or 14.
+#[tactic(auto, unfolding(crate::specs::Length::message_length))]
 pub fn is_message(n: usize) -> bool
     ensures { result ≡ message_length n }
 {
-    if n == 7 {
-        return true;
-    }
-    n == 14
+    n == 7 || n == 14
 }
 
 // How many positions are repaired: two that are equal are two.

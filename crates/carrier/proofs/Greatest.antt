@@ -124,13 +124,8 @@ module _ (s : List Float) (first : ℕ) where
 
 -- ---- the answer
 
-taken : (k : ℕ) (b : Best) (bin : ℕ) (value : Float) → tell {A = ℕ × Float} k (b.bin, b.value) ≡ done (bin, value)
-    → (k ≡ 0) × (b ≡ record { bin = bin; value = value })
-taken k b bin value e =
-    let v = told_values (b.bin, b.value) k e in (
-      sym (told_number (b.bin, b.value) k) ∙ ap (λ (t : Told (ℕ × Float)). t.0) e,
-      ap (λ (p : ℕ × Float). record { bin = p.0; value = p.1 }) v,
-    )
+taken : (k : ℕ) (b : Best) {c : Best} → tell k b ≡ done c → (k ≡ 0) × (b ≡ c)
+taken k b e = (sym (told_number b k) ∙ ap (λ (t : Told Best). t.0) e, told_values b k e)
 
 -- what is known of a bin and a value that were found
 record Opened (s : List Float) (m bin : ℕ) (value : Float) : Type 0 where
@@ -138,10 +133,10 @@ record Opened (s : List Float) (m bin : ℕ) (value : Float) : Type 0 where
   stands : (record { bin = bin; value = value } ≡ start s (length s / 2 - m))
       ⊎ Leads s (length s / 2 - m) (length s / 2 + m + 1) (record { bin = bin; value = value })
 
-opened : (s : List Float) (m bin : ℕ) (value : Float) → search_of s m ≡ done (bin, value) → Opened s m bin value
+opened : (s : List Float) (m bin : ℕ) (value : Float) → search_of s m ≡ done (record { bin = bin; value = value }) → Opened s m bin value
 unfolding search_of peak_of
 opened s m bin value e =
-    let r = taken (search_number (length s) m) (peak_of s m) bin value e in
+    let r = taken (search_number (length s) m) (peak_of s m) e in
     let t = search_taken (length s) m refl r.0 in
     let at = length s / 2 - m in
     let ends : at + (2 * m + 1) ≡ length s / 2 + m + 1 = omega (arith, t.wide) in
@@ -151,7 +146,7 @@ opened s m bin value e =
       stands = rw (ends, r.1) at (leads s at (2 * m + 1));
     }
 
-module _ (s : List Float) (m bin : ℕ) (value : Float) (answer : search_of s m ≡ done (bin, value)) where
+module _ (s : List Float) (m bin : ℕ) (value : Float) (answer : search_of s m ≡ done (record { bin = bin; value = value })) where
   -- some bin that is searched is above 0.0
   pub first_greatest : (j : ℕ) → InSearch s m j → lt zero_f (bin_at s j) ≡ true → FirstGreatest s m bin value
   first_greatest j i g =

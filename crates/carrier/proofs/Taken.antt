@@ -1,15 +1,33 @@
 -- Which calls are taken, and what is known of one that is.
---     bins-             a number of bins
+--     threshold_finite, threshold_else     a threshold, by its tests
+--     bins_known                           a number of bins
 --     search_taken, floor_taken, carrier_taken     what a number 0 says
 -- Assumes nothing.
 use mathlib.Core.Path.{◌≡◌, refl, sym, ◌∙◌}
 use mathlib.Core.Bool.{Bool, true, false, cond, ◌&&◌, true≢false}
 use Prim.Native.Nat.{ℕ, ◌+◌, ◌-◌, ◌/◌, ◌%◌, ◌<◌, ◌≤◌}
 use native.Mathlib.Omega.{arith}
-use borrow.Author.Tests.{ltb-true, leb-true, le-leb, lt-leb}
+use borrow.Author.Tests.{ltb-true, leb-true}
 use lib.Dec.{eqb, leb, ltb}
-use lib.Ieee.{Float}
+use lib.Ieee.{Float, nan, inf, fin, of_bits, le, is_nan}
+use Rattle.std.specs.Float.{float_is_finite}
+use Rattle.floats.specs.Numbers.{zero_f}
+use Rattle.floats.proofs.Compare.{le_not_lt}
 use Rattle.carrier.specs.Refusals.{bins_taken, threshold_taken, search_number, floor_number, carrier_number}
+
+-- ---- a threshold
+
+pub threshold_finite : (t : Float) → float_is_finite t ≡ true → le zero_f t ≡ threshold_taken t
+unfolding float_is_finite threshold_taken
+threshold_finite nan h = absurd (true≢false (sym h))
+threshold_finite (inf s) h = absurd (true≢false (sym h))
+threshold_finite (fin s m e) h = le_not_lt zero_f (fin s m e) (unfold is_nan of_bits in tt) (unfold is_nan in tt)
+
+pub threshold_else : (t : Float) → float_is_finite t ≡ false → false ≡ threshold_taken t
+unfolding float_is_finite threshold_taken
+threshold_else nan h = refl
+threshold_else (inf s) h = refl
+threshold_else (fin s m e) h = absurd (true≢false h)
 
 -- ---- a number of bins
 
@@ -25,18 +43,6 @@ bins_tested n false u v a b e = absurd (true≢false (sym e))
 pub bins_known : (n : ℕ) → bins_taken n ≡ true → Bins n
 unfolding bins_taken
 bins_known n h = bins_tested n (leb 4 n) (leb n 4096) (eqb (n % 2) 0) refl refl h
-
-pub bins_few : (n : ℕ) → n < 4 → false ≡ bins_taken n
-unfolding bins_taken
-bins_few n h = rw (lt-leb 4 n h)
-
-pub bins_many : (n : ℕ) → 4 ≤ n → 4096 < n → false ≡ bins_taken n
-unfolding bins_taken
-bins_many n h k = rw (le-leb 4 n h, lt-leb n 4096 k)
-
-pub bins_even : (n : ℕ) → 4 ≤ n → n ≤ 4096 → eqb (n % 2) 0 ≡ bins_taken n
-unfolding bins_taken
-bins_even n h k = rw (le-leb 4 n h, le-leb n 4096 k)
 
 -- ---- what a number 0 says
 

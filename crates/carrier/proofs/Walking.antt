@@ -1,50 +1,47 @@
 -- The walks over the bins.
---     peak_none, peak_took, peak_kept      the loop of the first greatest
+--     peak_took, peak_kept                 the loop of the first greatest
 --     peak_within                          its bin is one of those that were walked over
 --     strongest_is, strongest_within       from N/2 − M to N/2 + M
---     onto_none, onto_more, onto_all       the loop of a sum
 --     floor_is                             the floor is two sums: below the notch, then above it
 -- Assumes nothing.
 use mathlib.Core.Path.{◌≡◌, refl, sym, ap, ◌∙◌}
-use mathlib.Core.Logic.{◌⊎◌, inl, inr}
 use mathlib.Core.List.{List}
 use mathlib.Core.Bool.{Bool, true, false, cond}
-use Prim.Native.Nat.{ℕ, zero, suc, ◌+◌, ◌-◌, ◌*◌, ◌/◌, ◌<◌, ◌≤◌}
+use Prim.Native.Nat.{ℕ, zero, suc, ◌+◌, ◌-◌, ◌*◌, ◌/◌, ◌<◌, ◌≤◌, min}
 use native.Mathlib.Nat.{add-zero, add-suc}
 use native.Mathlib.Omega.{arith}
-use borrow.Author.Tests.{ltb-true, ltb-false, lt-ltb, le-ltb}
-use lib.Dec.{ltb}
-use lib.ListN.{length}
-use lib.Ieee.{Float, binary32, add, lt}
+use borrow.Author.Tests.{lt-ltb, le-ltb}
+use lib.ListN.{length, get_or, take, drop}
+use lib.Ieee.{Float, nan, binary32, add, lt}
+use Rattle.std.specs.List.{fold}
+use Rattle.std.proofs.lemmas.List.{get_or-take, get_or-drop, length-drop}
+use Rattle.std.proofs.lemmas.List.Sums.{fold_more}
 use Rattle.floats.specs.Numbers.{zero_f}
 use Rattle.carrier.specs.declared.search.Best.{Best}
 use Rattle.carrier.specs.Peaks.{bin_at, stronger, peak_from, peak_of}
 use Rattle.carrier.specs.Floors.{outside, floor_to, floor_of}
-use Rattle.carrier.specs.Inner.{onto}
+
+-- bin j of the k bins from bin `first` on
+bin_in : (s : List Float) (first k j : ℕ) → j < k → get_or (take k (drop first s)) j nan ≡ bin_at s (first + j)
+unfolding bin_at
+bin_in s first k j h = get_or-take k (drop first s) j nan h ∙ get_or-drop first s j nan
 
 module _ (s : List Float) (first : ℕ) where
-  pub peak_none : record { bin = first; value = zero_f } ≡ peak_from s first (first - first)
+  peak_more : (k j : ℕ) {b : Best} → j < k → b ≡ peak_from s first j → stronger b (first + j) (get_or (take k (drop first s)) j nan) ≡ peak_from s first (j + 1)
   unfolding peak_from
-  peak_none =
-      let e : first - first ≡ 0 = omega arith in
-      rw e
+  peak_more k j h e =
+      let a : j + 1 ≡ suc j = omega arith in
+      rw (bin_in s first k j h, a, e)
 
-  peak_more : (j : ℕ) {b : Best} → first ≤ j → b ≡ peak_from s first (j - first) → stronger b j (bin_at s j) ≡ peak_from s first (j + 1 - first)
-  unfolding peak_from
-  peak_more j h e =
-      let a : j + 1 - first ≡ suc (j - first) = omega arith in
-      let d : first + (j - first) ≡ j = omega arith in
-      rw (a, d, e)
-
-  pub peak_took : (j : ℕ) {b r : Best} → first ≤ j → b ≡ peak_from s first (j - first) → lt b.value (bin_at s j) ≡ true
-      → r ≡ record { bin = j; value = bin_at s j } → r ≡ peak_from s first (j + 1 - first)
+  pub peak_took : (k j : ℕ) {b r : Best} → j < k → b ≡ peak_from s first j → lt b.value (get_or (take k (drop first s)) j nan) ≡ true
+      → r ≡ record { bin = first + j; value = get_or (take k (drop first s)) j nan } → r ≡ peak_from s first (j + 1)
   unfolding stronger
-  peak_took j h e t q = q ∙ rw t at (peak_more j h e)
+  peak_took k j h e t q = q ∙ rw t at (peak_more k j h e)
 
-  pub peak_kept : (j : ℕ) {b r : Best} → first ≤ j → b ≡ peak_from s first (j - first) → lt b.value (bin_at s j) ≡ false
-      → r ≡ b → r ≡ peak_from s first (j + 1 - first)
+  pub peak_kept : (k j : ℕ) {b r : Best} → j < k → b ≡ peak_from s first j → lt b.value (get_or (take k (drop first s)) j nan) ≡ false
+      → r ≡ b → r ≡ peak_from s first (j + 1)
   unfolding stronger
-  peak_kept j h e t q = q ∙ rw t at (peak_more j h e)
+  peak_kept k j h e t q = q ∙ rw t at (peak_more k j h e)
 
 -- ---- where the first greatest lies
 
@@ -81,41 +78,29 @@ strongest_within s m h e =
     let g = ap (λ (b : Best). b.bin) e in
     (omega (arith, g, r.low), omega (arith, g, r.high))
 
--- ---- sums
-
-module _ (power : Float) (s : List Float) (first : ℕ) where
-  pub onto_none : power ≡ onto power s first (first - first)
-  unfolding onto
-  onto_none =
-      let e : first - first ≡ 0 = omega arith in
-      rw e
-
-  pub onto_more : (j : ℕ) {sum : Float} → first ≤ j → sum ≡ onto power s first (j - first)
-      → add binary32 sum (bin_at s j) ≡ onto power s first (j + 1 - first)
-  unfolding onto
-  onto_more j h e =
-      let a : j + 1 - first ≡ suc (j - first) = omega arith in
-      let d : first + (j - first) ≡ j = omega arith in
-      rw (a, d, e)
-
-  pub onto_all : (j end : ℕ) {sum : Float} → (j ≤ end) ⊎ (j ≡ first) → end ≤ j → sum ≡ onto power s first (j - first)
-      → sum ≡ onto power s first (end - first)
-  onto_all j end (inl h) k e =
-      let a : end - first ≡ j - first = omega arith in
-      rw a e
-  onto_all j end (inr h) k e =
-      let a : end - first ≡ j - first = omega arith in
-      rw a e
-
 -- ---- the floor
 
+-- a sum with one more bin, of all or from bin `first` on
+sum_first : (power : Float) (s : List Float) (n : ℕ) → n < length s
+    → fold (add binary32) power (take (suc n) s) ≡ add binary32 (fold (add binary32) power (take n s)) (bin_at s n)
+unfolding bin_at
+sum_first power s n h =
+    let a : suc n ≡ n + 1 = omega arith in
+    rw (a, fold_more (add binary32) power s n nan h)
+
+sum_more : (power : Float) (s : List Float) (first n : ℕ) → first + n < length s
+    → fold (add binary32) power (take (suc n) (drop first s)) ≡ add binary32 (fold (add binary32) power (take n (drop first s))) (bin_at s (first + n))
+unfolding bin_at
+sum_more power s first n h =
+    let l : n < length (drop first s) = omega (arith, length-drop first s) in
+    sum_first power (drop first s) n l ∙ rw (get_or-drop first s n nan)
+
 module _ (s : List Float) (bin w : ℕ) where
-  floor_below : (n : ℕ) → n ≤ bin - w → floor_to s bin w n ≡ onto zero_f s 0 n
-  unfolding floor_to onto outside
-  floor_below zero h = refl
-  floor_below (suc n) h =
-      let z : 0 + n ≡ n = omega arith in
-      rw (lt-ltb (n + w) bin (omega arith), floor_below n (omega arith), z)
+  floor_below : (n : ℕ) → n ≤ bin - w → n ≤ length s → floor_to s bin w n ≡ fold (add binary32) zero_f (take n s)
+  unfolding floor_to outside
+  floor_below zero h k = refl
+  floor_below (suc n) h k =
+      rw (lt-ltb (n + w) bin (omega arith), floor_below n (omega arith) (omega arith), sum_first zero_f s n (omega arith))
 
   floor_within : (k : ℕ) → bin - w + k ≤ bin + w + 1 → floor_to s bin w (bin - w + k) ≡ floor_to s bin w (bin - w)
   unfolding floor_to outside
@@ -123,32 +108,28 @@ module _ (s : List Float) (bin w : ℕ) where
   floor_within (suc k) h =
       rw (add-suc (bin - w) k, le-ltb (bin - w + k + w) bin (omega arith), le-ltb (bin + w) (bin - w + k) (omega arith), floor_within k (omega arith))
 
-  floor_above : (end k : ℕ) → bin + w < end → floor_to s bin w (end + k) ≡ onto (floor_to s bin w end) s end k
-  unfolding floor_to onto outside
-  floor_above end zero h = rw (add-zero end)
-  floor_above end (suc k) h =
-      rw (add-suc end k, le-ltb (end + k + w) bin (omega arith), lt-ltb (bin + w) (end + k) (omega arith), floor_above end k h)
+  floor_above : (end k : ℕ) → min (bin + w + 1) (length s) ≤ end → end + k ≤ length s
+      → floor_to s bin w (end + k) ≡ fold (add binary32) (floor_to s bin w end) (take k (drop end s))
+  unfolding floor_to outside
+  floor_above end zero h l = rw (add-zero end)
+  floor_above end (suc k) h l =
+      rw (
+        add-suc end k,
+        le-ltb (end + k + w) bin (omega arith),
+        lt-ltb (bin + w) (end + k) (omega arith),
+        floor_above end k h (omega arith),
+        sum_more (floor_to s bin w end) s end k (omega arith),
+      )
 
-  floor_notch : (n : ℕ) → bin - w ≤ n → n ≤ bin + w + 1 → floor_to s bin w n ≡ onto zero_f s 0 (bin - w)
-  floor_notch n h k =
+  floor_notch : (n : ℕ) → bin - w ≤ n → n ≤ bin + w + 1 → n ≤ length s → floor_to s bin w n ≡ fold (add binary32) zero_f (take (bin - w) s)
+  floor_notch n h k l =
       let e : bin - w + (n - (bin - w)) ≡ n = omega arith in
-      rw e at (floor_within (n - (bin - w)) (omega arith)) ∙ floor_below (bin - w) (omega arith)
+      rw e at (floor_within (n - (bin - w)) (omega arith)) ∙ floor_below (bin - w) (omega arith) (omega arith)
 
-  floor_by : (n : ℕ) (t : Bool) → ltb (bin + w + 1) n ≡ t → bin < n
-      → floor_to s bin w n ≡ onto (onto zero_f s 0 (bin - w)) s (bin + w + 1) (n - (bin + w + 1))
-  unfolding onto
-  floor_by n true e h =
-      let k : bin + w + 1 < n = ltb-true (bin + w + 1) n e in
-      let d : bin + w + 1 + (n - (bin + w + 1)) ≡ n = omega arith in
-      rw d at (floor_above (bin + w + 1) (n - (bin + w + 1)) (omega arith)) ∙ rw (floor_notch (bin + w + 1) (omega arith) (omega arith))
-  floor_by n false e h =
-      let k : n ≤ bin + w + 1 = ltb-false (bin + w + 1) n e in
-      let z : n - (bin + w + 1) ≡ 0 = omega arith in
-      rw z (floor_notch n (omega arith) k)
-
-  pub floor_is : {start : ℕ} {p r : Float} → bin < length s → start ≡ bin - w → p ≡ onto zero_f s 0 (start - 0)
-      → r ≡ onto p s (bin + w + 1) (length s - (bin + w + 1)) → r ≡ floor_of s bin w
+  pub floor_is : {start end : ℕ} {p r : Float} → bin < length s → start ≡ bin - w → end ≡ min (bin + w + 1) (length s)
+      → p ≡ fold (add binary32) zero_f (take start s) → r ≡ fold (add binary32) p (take (length s - end) (drop end s)) → r ≡ floor_of s bin w
   unfolding floor_of
-  floor_is h a e f =
-      let z : bin - w - 0 ≡ bin - w = omega arith in
-      f ∙ rw (e, a, z) (sym (floor_by (length s) (ltb (bin + w + 1) (length s)) refl h))
+  floor_is {end} h a b e f =
+      let d : end + (length s - end) ≡ length s = omega arith in
+      let g = rw d at (floor_above end (length s - end) (omega arith) (omega arith)) in
+      f ∙ rw (e, a, ← floor_notch end (omega arith) (omega arith) (omega arith)) (sym g)

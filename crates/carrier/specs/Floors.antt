@@ -3,10 +3,8 @@
 use Rattle.std.specs.Prelude.{List, Bool, cond, ◌||◌, ℕ, zero, suc, ◌+◌, ltb, length, Float}
 use Rattle.std.specs.Float.{binary32}
 use Rattle.std.specs.Float.Ieee.{add}
-use Rattle.lists.specs.Told.{Told, done, refused, tell}
+use Rattle.lists.specs.Told.{Told, tell}
 use Rattle.floats.specs.Numbers.{zero_f}
-use Rattle.carrier.specs.declared.notch.Floor.{Floor}
-use Rattle.carrier.specs.declared.notch.Floor.TheVariants.{Is, Refused}
 use Rattle.carrier.specs.Refusals.{floor_number}
 use Rattle.carrier.specs.Peaks.{bin_at}
 
@@ -25,11 +23,6 @@ floor_to s bin w (suc n) =
 -- all bins outside bin ± W
 unfoldable pub floor_of : List Float → ℕ → ℕ → Float
 floor_of s bin w = floor_to s bin w (length s)
-
--- an answer: its number, and the floor with number 0
-abbrev pub floor_told : Floor → Told Float
-floor_told (Is p) = done p
-floor_told (Refused n) = refused n
 
 -- what `carrier_notched_power` answers
 unfoldable pub floor_at : List Float → ℕ → ℕ → Told Float

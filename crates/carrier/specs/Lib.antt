@@ -3,4 +3,3 @@ pub mod Peaks
 pub mod Floors
 pub mod Carriers
 pub mod Maxima
-pub mod Inner

@@ -1,17 +1,9 @@
 -- The local maximum over five values: what `check_local_maximum` answers.
 -- Assumes nothing.
-use Rattle.std.specs.Prelude.{List, Bool, true, false, not, cond, ◌||◌, eqb, get_or, length, Float}
+use Rattle.std.specs.Prelude.{List, Bool, not, cond, ◌||◌, eqb, get_or, length, Float}
 use Rattle.std.specs.Float.{nan}
 use Rattle.std.specs.Float.Ieee.{le, lt}
-use Rattle.lists.specs.Told.{Told, done, refused, tell}
-use Rattle.carrier.specs.declared.maximum.LocalMaximum.{LocalMaximum}
-use Rattle.carrier.specs.declared.maximum.LocalMaximum.TheVariants.{Yes, No, Refused}
-
--- an answer: its number, and with number 0 whether it is a maximum
-abbrev pub maximum_told : LocalMaximum → Told Bool
-maximum_told Yes = done true
-maximum_told No = done false
-maximum_told (Refused n) = refused n
+use Rattle.lists.specs.Told.{Told, tell}
 
 -- one of the two before is as great as the third
 unfoldable pub earlier_as_great : List Float → Bool

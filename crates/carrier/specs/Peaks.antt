@@ -3,11 +3,9 @@
 use Rattle.std.specs.Prelude.{List, cond, ℕ, zero, suc, ◌+◌, ◌-◌, ◌*◌, ◌/◌, get_or, length, Float}
 use Rattle.std.specs.Float.{nan}
 use Rattle.std.specs.Float.Ieee.{lt}
-use Rattle.lists.specs.Told.{Told, done, refused, tell}
+use Rattle.lists.specs.Told.{Told, tell}
 use Rattle.floats.specs.Numbers.{zero_f}
 use Rattle.carrier.specs.declared.search.Best.{Best}
-use Rattle.carrier.specs.declared.search.Search.{Search}
-use Rattle.carrier.specs.declared.search.Search.TheVariants.{Found, Refused}
 use Rattle.carrier.specs.Refusals.{search_number}
 
 -- the value of bin j
@@ -27,11 +25,6 @@ peak_from s first (suc n) = stronger (peak_from s first n) (first + n) (bin_at s
 unfoldable pub peak_of : List Float → ℕ → Best
 peak_of s m = peak_from s (length s / 2 - m) (2 * m + 1)
 
--- an answer: its number, and bin and value with number 0
-abbrev pub search_told : Search → Told (ℕ × Float)
-search_told (Found bin value) = done (bin, value)
-search_told (Refused n) = refused n
-
 -- what `long_fft_max_search` answers
-unfoldable pub search_of : List Float → ℕ → Told (ℕ × Float)
-search_of s m = tell (search_number (length s) m) ((peak_of s m).bin, (peak_of s m).value)
+unfoldable pub search_of : List Float → ℕ → Told Best
+search_of s m = tell (search_number (length s) m) (peak_of s m)

@@ -1,12 +1,14 @@
 // Walks over the bins of a spectrum.
-ghost use Rattle.std.specs.Prelude.{◌≡◌, ◌+◌, ◌-◌, ◌/◌, ◌<◌, ◌≤◌, length};
-ghost use Rattle.carrier.specs.Inner.{onto};
+ghost use Rattle.std.specs.Prelude.{◌≡◌, ◌+◌, ◌-◌, ◌/◌, ◌<◌, ◌≤◌, length, fold};
+ghost use Rattle.std.specs.Float.{binary32};
+ghost use Rattle.std.specs.Float.Ieee.{add};
 ghost use Rattle.carrier.specs.Peaks.{peak_from, peak_of};
 ghost use Rattle.carrier.specs.Floors.{floor_of};
 
 use crate::search::Best;
 
 // The first greatest above 0.0 of the bins from `start` to before `end`.
+#[tactic(auto, unfolding(crate::specs::Peaks::peak_from))]
 fn first_greatest(spectrum: &[f32], start: usize, end: usize) -> Best
     requires { (start ≤ end) × (end ≤ length spectrum.now) }
     ensures { result ≡ peak_from spectrum.now start (end - start) }
@@ -15,11 +17,11 @@ fn first_greatest(spectrum: &[f32], start: usize, end: usize) -> Best
         bin: start,
         value: 0.0,
     };
-    for j in start..end {
-        if spectrum[j] > best.value {
+    for (j, &value) in spectrum[start..end].iter().enumerate() {
+        if value > best.value {
             best = Best {
-                bin: j,
-                value: spectrum[j],
+                bin: start + j,
+                value,
             };
         }
     }
@@ -27,6 +29,7 @@ fn first_greatest(spectrum: &[f32], start: usize, end: usize) -> Best
 }
 
 // The strongest bin of those within the half-width `search` of the middle.
+#[tactic(auto, using(crate::proofs::Walking::strongest_is))]
 pub fn strongest(spectrum: &[f32], search: usize) -> Best
     requires { (search + 2 ≤ length spectrum.now / 2) × (length spectrum.now ≤ 4096) }
     ensures { result ≡ peak_of spectrum.now search }
@@ -35,32 +38,20 @@ pub fn strongest(spectrum: &[f32], search: usize) -> Best
     first_greatest(spectrum, middle - search, middle + search + 1)
 }
 
-// Adds the bins from `start` to before `end` to a power, none where `start` is not before `end`.
-fn add_bins(power: f32, spectrum: &[f32], start: usize, end: usize) -> f32
-    requires { end ≤ length spectrum.now }
-    ensures { result ≡ onto power spectrum.now start (end - start) }
+// Adds the bins to a power, in order.
+fn add_bins(power: f32, bins: &[f32]) -> f32
+    ensures { result ≡ fold (add binary32) power bins.now }
 {
-    let mut sum = power;
-    for j in start..end {
-        sum = sum + spectrum[j];
-    }
-    sum
-}
-
-// 0 where b is greater.
-fn saturating_sub(a: usize, b: usize) -> usize
-    ensures { result ≡ a - b }
-{
-    if a < b { 0 } else { a - b }
+    bins.iter().fold(power, |sum, &bin| sum + bin)
 }
 
 // The power of the bins outside the notch.
+#[tactic(auto, using(crate::proofs::Walking::floor_is))]
 pub fn notched_power(spectrum: &[f32], bin: usize, notch: usize) -> f32
     requires { (bin < length spectrum.now) × (notch < length spectrum.now) × (length spectrum.now ≤ 4096) }
     ensures { result ≡ floor_of spectrum.now bin notch }
 {
-    let n = spectrum.len();
-    let start = saturating_sub(bin, notch);
-    let end = bin + notch + 1;
-    add_bins(add_bins(0.0, spectrum, 0, start), spectrum, end, n)
+    let start = bin.saturating_sub(notch);
+    let end = (bin + notch + 1).min(spectrum.len());
+    add_bins(add_bins(0.0, &spectrum[..start]), &spectrum[end..])
 }

@@ -1,32 +1,18 @@
 // Whether the third of five values is a local maximum: of a plateau, the first is.
 ghost use Rattle.std.specs.Prelude.{◌≡◌};
-ghost use Rattle.carrier.specs.Maxima.{maximum_told, maximum_of};
+ghost use Rattle.refusals.specs.Refusals.{told};
+ghost use Rattle.carrier.specs.Maxima.{maximum_of};
 
-#[derive(Clone, Copy)]
-pub enum LocalMaximum {
-    Yes,
-    No,
-    Refused(u32),
-}
+use refusals::Refusal;
 
-pub fn check_local_maximum(values: &[f32]) -> LocalMaximum
-    ensures { maximum_told result ≡ maximum_of values.now }
+#[tactic(auto, unfolding(crate::specs::Maxima::maximum_of, crate::specs::Maxima::earlier_as_great, crate::specs::Maxima::later_greater))]
+pub fn check_local_maximum(values: &[f32]) -> Result<bool, Refusal>
+    ensures { told result ≡ maximum_of values.now }
 {
-    if values.len() != 5 {
-        return LocalMaximum::Refused(2);
+    match *values {
+        [first, second, third, fourth, fifth] => {
+            Ok(!(first >= third || second >= third || fourth > third || fifth > third))
+        }
+        _ => Err(Refusal::Input),
     }
-    let third = values[2];
-    if values[0] >= third {
-        return LocalMaximum::No;
-    }
-    if values[1] >= third {
-        return LocalMaximum::No;
-    }
-    if values[3] > third {
-        return LocalMaximum::No;
-    }
-    if values[4] > third {
-        return LocalMaximum::No;
-    }
-    LocalMaximum::Yes
 }

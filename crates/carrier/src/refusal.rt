@@ -1,66 +1,66 @@
 // What the calls over a spectrum of n bins refuse.
 ghost use Rattle.std.specs.Prelude.{◌≡◌};
-ghost use Rattle.carrier.specs.Refusals.{bins_taken, search_number, floor_number, carrier_number};
+ghost use Rattle.refusals.specs.Refusals.{told_number};
+ghost use Rattle.carrier.specs.Refusals.{bins_taken, threshold_taken, search_number, floor_number, carrier_number};
 
-use math::is_finite;
+use refusals::Refusal;
 
 // An even number of bins, 4 to 4,096.
+#[tactic(auto, unfolding(crate::specs::Refusals::bins_taken))]
 fn bins_taken(n: usize) -> bool
     ensures { result ≡ bins_taken n }
 {
-    if n < 4 {
-        return false;
-    }
-    if n > 4096 {
-        return false;
-    }
-    n % 2 == 0
+    (4..=4096).contains(&n) && n % 2 == 0
 }
 
-pub fn search_number(n: usize, search: usize) -> u32
-    ensures { result ≡ search_number n search }
+#[tactic(auto, using(crate::proofs::Taken::threshold_finite, crate::proofs::Taken::threshold_else))]
+fn threshold_taken(threshold: f32) -> bool
+    ensures { result ≡ threshold_taken threshold }
+{
+    threshold.is_finite() && threshold >= 0.0
+}
+
+#[tactic(auto, unfolding(crate::specs::Refusals::search_number, crate::specs::Refusals::bins_taken))]
+pub fn check_search(n: usize, search: usize) -> Result<(), Refusal>
+    ensures { told_number result ≡ search_number n search }
 {
     if !bins_taken(n) {
-        return 2;
+        return Err(Refusal::Input);
     }
     if search > n / 2 - 2 {
-        return 9;
+        return Err(Refusal::HalfWidth);
     }
-    0
+    Ok(())
 }
 
-pub fn floor_number(n: usize, bin: usize, notch: usize) -> u32
-    ensures { result ≡ floor_number n bin notch }
+#[tactic(auto, unfolding(crate::specs::Refusals::floor_number, crate::specs::Refusals::bins_taken))]
+pub fn check_floor(n: usize, bin: usize, notch: usize) -> Result<(), Refusal>
+    ensures { told_number result ≡ floor_number n bin notch }
 {
     if !bins_taken(n) {
-        return 2;
+        return Err(Refusal::Input);
     }
     if bin >= n {
-        return 7;
+        return Err(Refusal::Place);
     }
     if notch >= n {
-        return 9;
+        return Err(Refusal::HalfWidth);
     }
-    0
+    Ok(())
 }
 
-pub fn carrier_number(n: usize, search: usize, notch: usize, threshold: f32) -> u32
-    ensures { result ≡ carrier_number n search notch threshold }
+#[tactic(auto, unfolding(crate::specs::Refusals::carrier_number, crate::specs::Refusals::bins_taken))]
+pub fn check_carrier(n: usize, search: usize, notch: usize, threshold: f32) -> Result<(), Refusal>
+    ensures { told_number result ≡ carrier_number n search notch threshold }
 {
     if !bins_taken(n) {
-        return 2;
+        return Err(Refusal::Input);
     }
-    if !is_finite(threshold) {
-        return 5;
+    if !threshold_taken(threshold) {
+        return Err(Refusal::Threshold);
     }
-    if threshold < 0.0 {
-        return 5;
+    if search > n / 2 - 2 || notch >= n {
+        return Err(Refusal::HalfWidth);
     }
-    if search > n / 2 - 2 {
-        return 9;
-    }
-    if notch >= n {
-        return 9;
-    }
-    0
+    Ok(())
 }

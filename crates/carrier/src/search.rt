@@ -1,32 +1,22 @@
 // The strongest bin of a spectrum.
 ghost use Rattle.std.specs.Prelude.{◌≡◌};
-ghost use Rattle.carrier.specs.Peaks.{search_told, search_of};
+ghost use Rattle.refusals.specs.Refusals.{told};
+ghost use Rattle.carrier.specs.Peaks.{search_of};
 
 use crate::bins::strongest;
-use crate::refusal::search_number;
+use crate::refusal::check_search;
+use refusals::Refusal;
 
-#[derive(Clone, Copy)]
+#[derive(Clone, Copy, Debug, PartialEq)]
 pub struct Best {
     pub bin: usize,
     pub value: f32,
 }
 
-#[derive(Clone, Copy)]
-pub enum Search {
-    Found { bin: usize, value: f32 },
-    Refused(u32),
-}
-
-pub fn long_fft_max_search(spectrum: &[f32], search: usize) -> Search
-    ensures { search_told result ≡ search_of spectrum.now search }
+#[tactic(auto, using(crate::proofs::Taken::search_taken), unfolding(crate::specs::Peaks::search_of))]
+pub fn long_fft_max_search(spectrum: &[f32], search: usize) -> Result<Best, Refusal>
+    ensures { told result ≡ search_of spectrum.now search }
 {
-    let number = search_number(spectrum.len(), search);
-    if number != 0 {
-        return Search::Refused(number);
-    }
-    let best = strongest(spectrum, search);
-    Search::Found {
-        bin: best.bin,
-        value: best.value,
-    }
+    check_search(spectrum.len(), search)?;
+    Ok(strongest(spectrum, search))
 }

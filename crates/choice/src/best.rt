@@ -6,11 +6,5 @@ ghost use Rattle.search.specs.Choice.{beats_by};
 pub fn displaces(new: u32, new_cn0: f32, held: u32, held_cn0: f32) -> bool
     ensures { result ≡ beats_by new new_cn0 held held_cn0 }
 {
-    if new < held {
-        return true;
-    }
-    if new == held {
-        return held_cn0 < new_cn0;
-    }
-    false
+    new < held || (new == held && held_cn0 < new_cn0)
 }

@@ -1,35 +1,33 @@
 // Which settings and indices are taken.
 ghost use Rattle.std.specs.Prelude.{◌≡◌};
+ghost use Rattle.refusals.specs.Refusals.{told_number};
 ghost use Rattle.search.specs.Answers.{settings_number, index_number};
 
-use math::is_finite;
+use refusals::Refusal;
 use search::Settings;
 
 // A level above 2 is refused with 4, a threshold that is not finite with 5.
-pub fn check_settings(s: Settings) -> u32
-    ensures { result ≡ settings_number s }
+#[tactic(auto, using(math::proofs::Finite::finite_is), unfolding(search::specs::Answers::settings_number))]
+pub fn check_settings(s: Settings) -> Result<(), Refusal>
+    ensures { told_number result ≡ settings_number s }
 {
     if s.level > 2 {
-        return 4;
+        Err(Refusal::Level)
+    } else if !s.threshold.is_finite() || !s.second.is_finite() {
+        Err(Refusal::Threshold)
+    } else {
+        Ok(())
     }
-    if !is_finite(s.threshold) {
-        return 5;
-    }
-    if !is_finite(s.second) {
-        return 5;
-    }
-    0
 }
 
 // An index below 128 or above 2^63 is refused with 6.
-pub fn check_index(index: u64) -> u32
-    ensures { result ≡ index_number index }
+#[tactic(auto, unfolding(search::specs::Answers::index_number))]
+pub fn check_index(index: u64) -> Result<(), Refusal>
+    ensures { told_number result ≡ index_number index }
 {
-    if index < 128 {
-        return 6;
+    if (128..=1 << 63).contains(&index) {
+        Ok(())
+    } else {
+        Err(Refusal::Index)
     }
-    if index > 9223372036854775808 {
-        return 6;
-    }
-    0
 }

@@ -5,6 +5,7 @@ use mathlib.Core.Bool.{Bool, true, false, cond}
 use mathlib.Core.List.{List}
 use mathlib.Core.Logic.{◌↔◌}
 use Prim.Native.Nat.{ℕ}
+use Rattle.std.specs.Prelude.{Result}
 use native.Mathlib.Omega.{arith}
 use borrow.Author.Tests.{eq-eqb}
 use lib.Dec.{eqb}
@@ -12,16 +13,17 @@ use lib.ListN.{length}
 use Rattle.annex10.specs.Remainder.{remainder}
 use Rattle.annex10.specs.Repair.{count}
 use Rattle.annex10.specs.Any.{clearing_up_to, only}
-use Rattle.annex10.specs.Mend.{mended, mended_told}
+use Rattle.annex10.specs.Mend.{mended}
 use Rattle.annex10.specs.declared.Repairs.{Repairs}
 use Rattle.annex10.specs.declared.Found.{Found}
 use Rattle.annex10.specs.declared.Found.TheVariants.{At, Nothing}
-use Rattle.annex10.specs.declared.Mended.{Mended}
 use Rattle.annex10.proofs.Mending.{mended_is}
 use Rattle.annex10.proofs.Repairing.{not_there, clears_when, clearing_is}
-use Rattle.annex10.proofs.Told.{mended_untold, mended_back}
 use Rattle.annex10.proofs.Unique.{apart_14}
 use Rattle.annex10.proofs.UpTo.{up_to_found, only_up_to}
+use Rattle.refusals.specs.declared.Refusal.{Refusal}
+use Rattle.refusals.specs.Refusals.{told}
+use Rattle.refusals.proofs.Told.{untold, told_back}
 use Rattle.claims.specs.Mended.{ClearedBy, Mends, SameRepair}
 
 abbrev tables : ℕ → List ℕ → Found
@@ -60,8 +62,8 @@ by_tables : Mends tables
 by_tables = record { finds = λ level m l e. right level m e; nothing = λ level m l e. none_right level m e }
 
 -- an answer is known from what it tells
-one_answer : (a b : Mended) → mended_told a ≡ mended_told b → a ≡ b
-one_answer a b e = sym (mended_back a) ∙ ap mended_untold e ∙ mended_back b
+one_answer : (a b : Result Found Refusal) → told a ≡ told b → a ≡ b
+one_answer a b e = sym (told_back a) ∙ ap untold e ∙ told_back b
 
 pub same_repair : SameRepair tables mended
 same_repair =

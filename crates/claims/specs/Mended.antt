@@ -1,14 +1,15 @@
 -- IS WHAT THE TABLES SAY WHAT A TRIAL FINDS? Yes, for every message of 14 bytes and each of the three levels. The tables see nothing of a
 -- message but its remainder; a trial turns bits of the message over and divides.
 -- Assumes nothing.
-use Rattle.std.specs.Prelude.{◌≡◌, List, ◌↔◌, ℕ, ◌≤◌, length}
+use Rattle.std.specs.Prelude.{◌≡◌, List, ◌↔◌, ℕ, ◌≤◌, length, Result}
+use Rattle.refusals.specs.declared.Refusal.{Refusal}
+use Rattle.refusals.specs.Refusals.{told}
 use Rattle.annex10.specs.Remainder.{remainder}
 use Rattle.annex10.specs.Repair.{count, Proper, repaired}
-use Rattle.annex10.specs.Mend.{mended_told, repair_of}
+use Rattle.annex10.specs.Mend.{repair_of}
 use Rattle.annex10.specs.declared.Repairs.{Repairs}
 use Rattle.annex10.specs.declared.Found.{Found}
 use Rattle.annex10.specs.declared.Found.TheVariants.{At, Nothing}
-use Rattle.annex10.specs.declared.Mended.{Mended}
 
 -- The message m is cleared by ρ.
 pub record ClearedBy (level : ℕ) (m : List ℕ) (ρ : Repairs) : Type 0 where
@@ -34,4 +35,4 @@ pub record SameRepair (tables trial : ℕ → List ℕ → Found) : Type 0 where
   pub by_tables : Mends tables
   pub by_trial : Mends trial
   -- 3. So are the two functions: `a` is what `repair` may answer, `b` what `repair_slowly` may, of any message at any level, refusals too.
-  pub answers : (level : ℕ) (m : List ℕ) (a b : Mended) → mended_told a ≡ repair_of 14 2 level m → mended_told b ≡ repair_of 14 2 level m → a ≡ b
+  pub answers : (level : ℕ) (m : List ℕ) (a b : Result Found Refusal) → told a ≡ repair_of 14 2 level m → told b ≡ repair_of 14 2 level m → a ≡ b

@@ -15,15 +15,15 @@ pub fn ten_log10(x: f32) -> f32
     ensures { result ≡ ten_log10 x }
 {
     if x > 0.0 {
-        if x == 1.0 / 0.0 {
+        if x == f32::INFINITY {
             x
         } else {
-            (logarithm::log_steps(x) as f32) * SCALE
+            logarithm::log_steps(x) as f32 * SCALE
         }
     } else if x == 0.0 {
-        -1.0 / 0.0
+        f32::NEG_INFINITY
     } else {
-        0.0 / 0.0
+        f32::NAN
     }
 }
 

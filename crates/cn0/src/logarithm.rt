@@ -7,7 +7,7 @@ ghost use Rattle.cn0.specs.Logarithm.{digits, log_steps};
 ghost use Rattle.cn0.specs.Inner.{Placed};
 
 // Where the leading digit stands, counted from 1 at 2^-149, and the digits as a number in [2^31, 2^32).
-#[derive(Clone, Copy)]
+#[derive(Clone, Copy, Debug, PartialEq, Eq)]
 pub struct Parts {
     pub place: u32,
     pub significand: u64,
@@ -18,19 +18,15 @@ pub fn take_apart(x: f32) -> Parts
     requires { T (positive x) }
     ensures { Placed x result.place result.significand }
 {
-    let bits = f32::to_bits(x);
+    let bits = x.to_bits();
     let field = bits >> 23;
     let low = bits & 0x7f_ffff;
-    let mut q = low;
-    let mut k = 0u32;
-    if field > 0 {
-        q = low + 0x80_0000;
-        k = field - 1;
-    }
-    let z = u32::leading_zeros(q);
+    let k = field.saturating_sub(1);
+    let q = if field > 0 { low + 0x80_0000 } else { low };
+    let z = q.leading_zeros();
     Parts {
         place: k + (32 - z),
-        significand: (q as u64) << z,
+        significand: u64::from(q) << z,
     }
 }
 
@@ -39,9 +35,8 @@ pub fn log_digits(significand: u64) -> u32
     ensures { (result ≡ digits 16 0 significand) × (result < 2 ^ 16) }
 {
     let mut r = significand;
-    let mut d: u32 = 0;
-    let mut i: u32 = 0;
-    while i < 16 {
+    let mut d = 0;
+    for _ in 0u32..16 {
         let t = r * r;
         if t >= 0x8000_0000_0000_0000 {
             d = 2 * d + 1;
@@ -50,7 +45,6 @@ pub fn log_digits(significand: u64) -> u32
             d = 2 * d;
             r = t >> 31;
         }
-        i += 1;
     }
     d
 }
@@ -60,7 +54,6 @@ pub fn log_steps(x: f32) -> i32
     requires { T (positive x) }
     ensures { (result ≡ log_steps x) × T (in_float binary32 result) }
 {
-    let p = take_apart(x);
-    let d = log_digits(p.significand);
-    ((65536 * p.place + d) as i32) - 9830400
+    let Parts { place, significand } = take_apart(x);
+    (65536 * place + log_digits(significand)) as i32 - 9830400
 }

@@ -13,6 +13,8 @@ use lib.Ieee.Scale.{finite}
 use lib.ListN.{length}
 use Rattle.search.specs.Answers.{index_number}
 use Rattle.words.specs.Words.{little_endian}
+use Rattle.refusals.specs.declared.Refusal.{Refusal}
+use Rattle.refusals.specs.declared.Refusal.TheVariants.{Malformed}
 use Rattle.feed.specs.declared.Field.{Field}
 use Rattle.feed.specs.declared.Field.TheVariants.{
   SettingsCount,
@@ -47,11 +49,11 @@ use Rattle.feed.specs.Machine.{
 use Rattle.feed.specs.Statement.{left_from, left_at, left_of}
 
 -- a check: what is refused is over
-left_provided : (t : Bool) (number n : ℕ) (fed : Fed) → 0 < n → (t ≡ true → left_of fed.state < n)
-    → left_of (provided t number fed).state < n
+left_provided : (t : Bool) (refusal : Refusal) (n : ℕ) (fed : Fed) → 0 < n → (t ≡ true → left_of fed.state < n)
+    → left_of (provided t refusal fed).state < n
 unfolding provided left_of
-left_provided true number n fed some h = h refl
-left_provided false number n fed some h = some
+left_provided true refusal n fed some h = h refl
+left_provided false refusal n fed some h = some
 
 left_index : (k w : ℕ) → left_at (index_stage k w) k ≤ 66 + (64 - k)
 unfolding index_stage
@@ -69,39 +71,39 @@ left_samples k w = go (ltb k w) where
 
 left_number : (f : Field) (s : State) (n : ℕ) → left_of (number_fed f s s.settings n).state < left_from f
 unfolding left_of
-left_number SettingsCount s n = left_provided (eqb n 4) 10 136 _ (omega arith) (λ e. omega arith)
-left_number Level s n = left_provided (leb n 2) 4 135 _ (omega arith) (λ e. omega arith)
-left_number Threshold s n = left_provided (finite (of_bits binary32 n)) 5 134 _ (omega arith) (λ e. omega arith)
-left_number Second s n = left_provided (finite (of_bits binary32 n)) 5 133 _ (omega arith) (λ e. omega arith)
+left_number SettingsCount s n = left_provided (eqb n 4) _ 136 _ (omega arith) (λ e. omega arith)
+left_number Level s n = left_provided (leb n 2) _ 135 _ (omega arith) (λ e. omega arith)
+left_number Threshold s n = left_provided (finite (of_bits binary32 n)) _ 134 _ (omega arith) (λ e. omega arith)
+left_number Second s n = left_provided (finite (of_bits binary32 n)) _ 133 _ (omega arith) (λ e. omega arith)
 left_number Distance s n = omega arith
-left_number WindowCount s n = left_provided (leb n 64) 10 131 _ (omega arith) (λ e. omega (arith, left_index 0 n))
+left_number WindowCount s n = left_provided (leb n 64) _ 131 _ (omega arith) (λ e. omega (arith, left_index 0 n))
 left_number SampleCount s n =
-    left_provided (eqb n (2310 * s.windows)) 10 66 _ (omega arith) (λ e. omega (arith, left_samples 0 s.windows))
+    left_provided (eqb n (2310 * s.windows)) _ 66 _ (omega arith) (λ e. omega (arith, left_samples 0 s.windows))
 
 left_at_law : (g : Stage) (s : State) (part : List ℕ) → wanted_at g ≢ 0 → left_of (fed_at g s part).state < left_at g s.done
 unfolding sized index_fed samples_fed left_of
 left_at_law (Number f) s part some =
-    left_provided (eqb (length part) 4) 10 (left_from f) _ (omega (arith, left_number f s 0)) (λ e. left_number f s (little_endian part))
+    left_provided (eqb (length part) 4) _ (left_from f) _ (omega (arith, left_number f s 0)) (λ e. left_number f s (little_endian part))
 left_at_law Index s part some =
-    left_provided (eqb (length part) 8) 10 (66 + (64 - s.done)) _ (omega arith)
+    left_provided (eqb (length part) 8) _ (66 + (64 - s.done)) _ (omega arith)
     (λ e.
-    left_provided (ltb s.done 64) 10 (66 + (64 - s.done)) _ (omega arith)
+    left_provided (ltb s.done 64) _ (66 + (64 - s.done)) _ (omega arith)
     (λ l.
-    left_provided (eqb (index_number (little_endian part)) 0) 6 (66 + (64 - s.done)) _ (omega arith)
+    left_provided (eqb (index_number (little_endian part)) 0) _ (66 + (64 - s.done)) _ (omega arith)
     (λ good. omega (arith, left_index (s.done + 1) s.windows, ltb-true s.done 64 l))))
 left_at_law Samples s part some =
-    left_provided (eqb (length part) 9240) 10 (1 + (64 - s.done)) _ (omega arith)
+    left_provided (eqb (length part) 9240) _ (1 + (64 - s.done)) _ (omega arith)
     (λ e.
-    left_provided (ltb s.done 64) 10 (1 + (64 - s.done)) _ (omega arith)
+    left_provided (ltb s.done 64) _ (1 + (64 - s.done)) _ (omega arith)
     (λ l. omega (arith, left_samples (s.done + 1) s.windows, ltb-true s.done 64 l)))
-left_at_law End s part some = left_provided (eqb (length part) 0) 10 1 _ (omega arith) (λ e. omega arith)
+left_at_law End s part some = left_provided (eqb (length part) 0) _ 1 _ (omega arith) (λ e. omega arith)
 left_at_law Over s part some = absurd (some refl)
 
 pub nearer : (s : State) (part : List ℕ) → wanted_of s ≢ 0 → left_of (fed_of s part).state < left_of s
 unfolding fed_of wanted_of left_of
 nearer s part some = left_at_law s.stage s part some
 
-pub failed_is : (s : State) → wanted_of s ≢ 0 → failed_of s ≡ refuses_with 10
+pub failed_is : (s : State) → wanted_of s ≢ 0 → failed_of s ≡ refuses_with Malformed
 unfolding failed_of
 failed_is s some = simp (ne_eqb (wanted_of s) 0 some)
 

@@ -15,6 +15,7 @@ use lib.Seq.{take-suc-set}
 use Rattle.search.specs.declared.Settings.{Settings}
 use Rattle.search.specs.Answers.{index_number}
 use Rattle.words.specs.Words.{little_endian}
+use Rattle.refusals.specs.declared.Refusal.TheVariants as refused
 use Rattle.feed.specs.declared.Field.{Field}
 use Rattle.feed.specs.declared.Field.TheVariants.{
   SettingsCount,
@@ -58,7 +59,7 @@ module _ (t : Settings) where
     where
       taken : (part : List ℕ) (index : ℕ) → After n part (index_fed (wanting t w k xs) index)
           (λ stop rest. need (eqb (index_number index) 0) 6 (f index stop rest))
-      taken part index = simp (lt-ltb k 64 h) (after_provided (eqb (index_number index) 0) 6 (λ good. after_says Nothing part (p index)))
+      taken part index = simp (lt-ltb k 64 h) (after_provided (eqb (index_number index) 0) refused.Index (λ good. after_says Nothing part (p index)))
 
   -- m indices from the k-th on
   pub tells_indices : (m w k : ℕ) (xs : List ℕ) → k + m ≡ w → w ≤ 64 → length xs ≡ 64
@@ -112,7 +113,7 @@ module _ (xs : List ℕ) (size : length xs ≡ 64) where
       tells_number 130 WindowCount t 0 0 xs
       (λ stop windows rest. need (leb windows 64) 10 (indices_lines stop t windows [] rest))
       (λ windows part.
-      after_provided (leb windows 64) 10
+      after_provided (leb windows 64) refused.Malformed
       (λ few.
       let most : windows ≤ 64 = leb-true windows 64 few in
       after_says Nothing part (longer (omega arith) (tells_indices t windows windows 0 xs (zero-add windows) most size))))
@@ -131,23 +132,23 @@ module _ (xs : List ℕ) (size : length xs ≡ 64) where
       tells_number 132 Second t 0 0 xs
       (λ stop bits rest.
       need (finite (of_bits binary32 bits)) 5 (from_distance stop t.level t.threshold (of_bits binary32 bits) rest))
-      (λ bits part. after_provided (finite (of_bits binary32 bits)) 5 (λ good. after_says Nothing part (tells_distance _)))
+      (λ bits part. after_provided (finite (of_bits binary32 bits)) refused.Threshold (λ good. after_says Nothing part (tells_distance _)))
 
   tells_threshold : (t : Settings) → Tells 134 (before Threshold t xs) (λ stop input. from_threshold stop t.level input)
   tells_threshold t =
       tells_number 133 Threshold t 0 0 xs
       (λ stop bits rest. need (finite (of_bits binary32 bits)) 5 (from_second stop t.level (of_bits binary32 bits) rest))
-      (λ bits part. after_provided (finite (of_bits binary32 bits)) 5 (λ good. after_says Nothing part (tells_second _)))
+      (λ bits part. after_provided (finite (of_bits binary32 bits)) refused.Threshold (λ good. after_says Nothing part (tells_second _)))
 
   tells_level : (t : Settings) → Tells 135 (before Level t xs) (λ stop input. from_level stop input)
   tells_level t =
       tells_number 134 Level t 0 0 xs
       (λ stop level rest. need (leb level 2) 4 (from_threshold stop level rest))
-      (λ level part. after_provided (leb level 2) 4 (λ good. after_says Nothing part (tells_threshold _)))
+      (λ level part. after_provided (leb level 2) refused.Level (λ good. after_says Nothing part (tells_threshold _)))
 
   pub tells_all : (t : Settings) → Tells 136 (before SettingsCount t xs) (λ stop input. lines_of stop input)
   unfolding lines_of
   tells_all t =
       tells_number 135 SettingsCount t 0 0 xs
       (λ stop count rest. need (eqb count 4) 10 (from_level stop rest))
-      (λ count part. after_provided (eqb count 4) 10 (λ good. after_says Nothing part (tells_level t)))
+      (λ count part. after_provided (eqb count 4) refused.Malformed (λ good. after_says Nothing part (tells_level t)))

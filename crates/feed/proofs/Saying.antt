@@ -15,6 +15,9 @@ use lib.ListN.{length, take, drop}
 use lib.Seq.{length-take-le}
 use Rattle.search.specs.declared.Settings.{Settings}
 use Rattle.words.specs.Words.{little_endian}
+use Rattle.refusals.specs.declared.Refusal.{Refusal}
+use Rattle.refusals.specs.declared.Refusal.TheVariants.{Malformed}
+use Rattle.refusals.specs.Refusals.{number}
 use Rattle.feed.specs.declared.Field.{Field}
 use Rattle.feed.specs.declared.Stage.TheVariants.{Number, Over}
 use Rattle.feed.specs.declared.State.{State}
@@ -51,15 +54,15 @@ pub after_says : {n : ℕ} (said : Said) (part : List ℕ) {s : State} {f : Stop
 after_says said part p =
     record { so = λ steps stop input l. ap (λ (x : List Line). line_of said part ++ x) (p.so steps stop input l) }
 
-pub after_refuses : (n number : ℕ) (part : List ℕ) → After n part (refuses_with number) (λ stop rest. refusal number ∷ [])
-after_refuses n number part = after_says (Refused number) part (tells_over n)
+pub after_refuses : (n : ℕ) (e : Refusal) (part : List ℕ) → After n part (refuses_with e) (λ stop rest. refusal (number e) ∷ [])
+after_refuses n e part = after_says (Refused e) part (tells_over n)
 
 -- a check, over what comes after it where it holds
-pub after_provided : {n : ℕ} (t : Bool) (number : ℕ) {part : List ℕ} {fed : Fed} {f : Stop → List ℕ → List Line}
-    → (t ≡ true → After n part fed f) → After n part (provided t number fed) (λ stop rest. need t number (f stop rest))
+pub after_provided : {n : ℕ} (t : Bool) (e : Refusal) {part : List ℕ} {fed : Fed} {f : Stop → List ℕ → List Line}
+    → (t ≡ true → After n part fed f) → After n part (provided t e fed) (λ stop rest. need t (number e) (f stop rest))
 unfolding provided need
-after_provided true number a = a refl
-after_provided {n} false number {part} a = after_refuses n number part
+after_provided true e a = a refl
+after_provided {n} false e {part} a = after_refuses n e part
 
 -- a state that wants w bytes, where g says what becomes of them
 module _
@@ -79,7 +82,7 @@ module _
         let e : length (take w input) ≡ w = length-take-le w input enough in
         rw (fed (take w input), eq-eqb _ _ e) ((after (take w input) e).so steps stop (drop w input) l)
 
-    short : (stop : Stop) (input : List ℕ) → length input < w → short_fed stop s input ≡ refuses_with 10
+    short : (stop : Stop) (input : List ℕ) → length input < w → short_fed stop s input ≡ refuses_with Malformed
     unfolding sized provided failed_of
     short end input less = rw (fed input, ne_eqb (length input) w (λ e. omega arith))
     short failure input less = rw (wants, wanted_some)
@@ -90,7 +93,7 @@ module _
     step steps stop input true e l = simp (wants, wanted_some, e) (whole steps stop input l (leb-true _ _ e))
     step steps stop input false e l =
         simp (wants, wanted_some, e, short stop input (leb-false _ _ e))
-        ((after_refuses n 10 (take w input)).so steps stop (drop w input) l)
+        ((after_refuses n Malformed (take w input)).so steps stop (drop w input) l)
 
     all : (steps : ℕ) (stop : Stop) (input : List ℕ) → suc n ≤ steps → said_of steps stop s input ≡ next_bytes w input (h stop)
     all zero stop input l = absurd (not-suc-le-zero l)

@@ -11,6 +11,7 @@ use lib.Dec.{eqb}
 use lib.ListN.{length, get_or, take, drop}
 use lib.Seq.{drop-cons, length-take-le}
 use Rattle.search.specs.declared.Settings.{Settings}
+use Rattle.refusals.specs.declared.Refusal.TheVariants.{Malformed}
 use Rattle.feed.specs.declared.Field.TheVariants.{SampleCount}
 use Rattle.feed.specs.declared.Stage.TheVariants.{Number, Samples, End}
 use Rattle.feed.specs.declared.State.{State}
@@ -38,9 +39,9 @@ module _ (t : Settings) where
       → said_of (suc steps) stop (ended t w k xs) input ≡ ending stop input
   unfolding said_of read_fed wanted_of fed_of failed_of sized provided ending
   at_end w k xs steps end [] = (after_says Nothing [] (tells_over 0)).so steps end [] zero-le
-  at_end w k xs steps failure [] = (after_refuses 0 10 []).so steps failure [] zero-le
+  at_end w k xs steps failure [] = (after_refuses 0 Malformed []).so steps failure [] zero-le
   at_end w k xs steps stop (b ∷ bs) =
-      simp (le-leb 1 (suc (length bs)) (omega arith)) ((after_refuses 0 10 (b ∷ [])).so steps stop bs zero-le)
+      simp (le-leb 1 (suc (length bs)) (omega arith)) ((after_refuses 0 Malformed (b ∷ [])).so steps stop bs zero-le)
 
   tells_end : (w k : ℕ) (xs : List ℕ) → Tells 1 (ended t w k xs) (λ stop input. ending stop input)
   tells_end w k xs = record { so = ends } where
@@ -82,5 +83,5 @@ tells_samples t w k xs l size =
     (tells_number (suc w) SampleCount t w k xs
     (λ stop count rest. need (eqb count (2310 * w)) 10 (head w ∷ window_lines stop t 0 (take w xs) rest))
     (λ count part.
-    after_provided (eqb count (2310 * w)) 10
+    after_provided (eqb count (2310 * w)) Malformed
     (λ same. after_says (Head w) part (tells_rows t w w 0 xs (zero-add w) l size))))

@@ -8,6 +8,8 @@ use Rattle.floats.specs.Numbers.{zero_f}
 use Rattle.search.specs.declared.Settings.{Settings}
 use Rattle.search.specs.Answers.{index_number}
 use Rattle.words.specs.Words.{little_endian}
+use Rattle.refusals.specs.declared.Refusal.{Refusal}
+use Rattle.refusals.specs.declared.Refusal.TheVariants as refused
 use Rattle.feed.specs.declared.Field.{Field}
 use Rattle.feed.specs.declared.Field.TheVariants.{
   SettingsCount,
@@ -57,10 +59,10 @@ abbrev pub says : Said → State → Fed
 says said s = record { state = s; said = said }
 
 -- a refusal, and all is over
-abbrev pub refuses_with : ℕ → Fed
-refuses_with number = says (Refused number) (blank_of Over)
+abbrev pub refuses_with : Refusal → Fed
+refuses_with refusal = says (Refused refusal) (blank_of Over)
 
-unfoldable pub provided : Bool → ℕ → Fed → Fed
+unfoldable pub provided : Bool → Refusal → Fed → Fed
 provided test refusal fed = cond test fed (refuses_with refusal)
 
 -- the same at another stage, with other settings
@@ -83,28 +85,28 @@ samples_stage k windows = cond (ltb k windows) Samples End
 -- ---- what is done with a number of 32 bits; t: the settings so far
 
 abbrev pub number_fed : Field → State → Settings → ℕ → Fed
-number_fed SettingsCount s t n = provided (eqb n 4) 10 (says Nothing (told_of (Number Level) t s))
+number_fed SettingsCount s t n = provided (eqb n 4) refused.Malformed (says Nothing (told_of (Number Level) t s))
 number_fed Level s t n =
-    provided (leb n 2) 4
+    provided (leb n 2) refused.Level
     (says Nothing
     (told_of (Number Threshold) (record { level = n; threshold = t.threshold; second = t.second; distance = t.distance }) s))
 number_fed Threshold s t n =
     let x = of_bits binary32 n in
-    provided (finite x) 5
+    provided (finite x) refused.Threshold
     (says Nothing
     (told_of (Number Second) (record { level = t.level; threshold = x; second = t.second; distance = t.distance }) s))
 number_fed Second s t n =
     let x = of_bits binary32 n in
-    provided (finite x) 5
+    provided (finite x) refused.Threshold
     (says Nothing
     (told_of (Number Distance) (record { level = t.level; threshold = t.threshold; second = x; distance = t.distance }) s))
 number_fed Distance s t n =
     says Nothing
     (told_of (Number WindowCount) (record { level = t.level; threshold = t.threshold; second = t.second; distance = n }) s)
 number_fed WindowCount s t n =
-    provided (leb n 64) 10 (says Nothing (counted_of (index_stage 0 n) n 0 s))
+    provided (leb n 64) refused.Malformed (says Nothing (counted_of (index_stage 0 n) n 0 s))
 number_fed SampleCount s t n =
-    provided (eqb n (2310 * s.windows)) 10
+    provided (eqb n (2310 * s.windows)) refused.Malformed
     (says (Head s.windows) (counted_of (samples_stage 0 s.windows) s.windows 0 s))
 
 -- ---- an index, a window
@@ -122,8 +124,8 @@ kept_of stage index s =
 
 unfoldable pub index_fed : State → ℕ → Fed
 index_fed s index =
-    provided (ltb s.done 64) 10
-    (provided (eqb (index_number index) 0) 6
+    provided (ltb s.done 64) refused.Malformed
+    (provided (eqb (index_number index) 0) refused.Index
     (says Nothing (kept_of (index_stage (s.done + 1) s.windows) index s)))
 
 -- the window whose samples came
@@ -132,14 +134,14 @@ shot_of s = record { window = s.done; settings = s.settings; index = get_or s.in
 
 unfoldable pub samples_fed : State → Fed
 samples_fed s =
-    provided (ltb s.done 64) 10
+    provided (ltb s.done 64) refused.Malformed
     (says (Window (shot_of s)) (counted_of (samples_stage (s.done + 1) s.windows) s.windows (s.done + 1) s))
 
 -- ---- the whole
 
 -- a part that has another length than is wanted is malformed
 unfoldable pub sized : ℕ → List ℕ → Fed → Fed
-sized n part fed = provided (eqb (length part) n) 10 fed
+sized n part fed = provided (eqb (length part) n) refused.Malformed fed
 
 abbrev pub fed_at : Stage → State → List ℕ → Fed
 fed_at (Number f) s part = sized 4 part (number_fed f s s.settings (little_endian part))
@@ -154,4 +156,4 @@ fed_of s part = fed_at s.stage s part
 
 -- a part that could not be read
 unfoldable pub failed_of : State → Fed
-failed_of s = cond (eqb (wanted_of s) 0) (says Nothing s) (refuses_with 10)
+failed_of s = cond (eqb (wanted_of s) 0) (says Nothing s) (refuses_with refused.Malformed)

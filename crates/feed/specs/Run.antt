@@ -1,6 +1,7 @@
 -- WHAT IS SAID of an input that is fed in the parts that are wanted.
 -- Assumes nothing.
 use Rattle.std.specs.Prelude.{cond, List, [], ◌∷◌, ◌++◌, ℕ, zero, suc, eqb, leb, length, take, drop}
+use Rattle.refusals.specs.Refusals.{number}
 use Rattle.feed.specs.declared.State.{State}
 use Rattle.feed.specs.declared.Said.{Said}
 use Rattle.feed.specs.declared.Said.TheVariants.{Nothing, Head, Window, Refused}
@@ -13,7 +14,7 @@ abbrev pub line_of : Said → List ℕ → List Line
 line_of Nothing part = []
 line_of (Head n) part = head n ∷ []
 line_of (Window w) part = window w.window w.settings w.index part ∷ []
-line_of (Refused n) part = refusal n ∷ []
+line_of (Refused e) part = refusal (number e) ∷ []
 
 -- fewer bytes are left than are wanted
 abbrev pub short_fed : Stop → State → List ℕ → Fed

@@ -2,6 +2,7 @@
 -- Assumes nothing.
 use Rattle.std.specs.Prelude.{◌≡◌, List, [], ◌∷◌, ◌++◌, ◌≢◌, ◌⊎◌, ℕ, ◌+◌, ◌-◌, ◌≤◌, ◌<◌, length}
 use Rattle.lists.specs.From.{tabulate}
+use Rattle.refusals.specs.declared.Refusal.TheVariants.{Malformed}
 use Rattle.search.specs.declared.Answer.{Answer}
 use Rattle.search.specs.Kinds.{Kind}
 use Rattle.search.specs.Answers.{decode_of}
@@ -81,6 +82,6 @@ pub record Feeds : Type 0 where
   pub nearer : (s : State) (part : List ℕ) → wanted_of s ≢ 0 → left_of (fed_of s part).state < left_of s
   pub nearer_failed : (s : State) → wanted_of s ≢ 0 → left_of (failed_of s).state < left_of s
   -- A part that could not be read adds refusal 10 to what was said, and then all is over.
-  pub fails : (s : State) → wanted_of s ≢ 0 → failed_of s ≡ refuses_with 10
+  pub fails : (s : State) → wanted_of s ≢ 0 → failed_of s ≡ refuses_with Malformed
   -- Once all is over nothing more is said.
   pub over : (s : State) (part : List ℕ) → wanted_of s ≡ 0 → (fed_of s part ≡ says Nothing s) × (failed_of s ≡ says Nothing s)

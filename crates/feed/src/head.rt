@@ -1,148 +1,160 @@
 // What is done with the numbers before the samples, each checked as it is met.
-ghost use Rattle.std.specs.Prelude.{◌≡◌, ◌<◌};
-ghost use Rattle.feed.specs.Machine.{number_fed, index_fed, kept_of};
+ghost use Rattle.std.specs.Prelude.{◌≡◌, cond, Ok, Err};
+ghost use Rattle.std.specs.Float.{binary32};
+ghost use Rattle.std.specs.Float.Ieee.{of_bits};
+ghost use Rattle.std.specs.Float.Ieee.Scale.{finite};
+ghost use Rattle.feed.specs.Machine.{says, told_of, number_fed, index_fed};
+ghost use Rattle.feed.specs.Inner.{settled};
 
-use crate::moves::{counted, index_stage, refuses, samples_stage, silent, told};
+use crate::moves::{index_stage, samples_stage, silent};
 use crate::{Fed, Field, Said, Stage, State};
 use choice::settings::check_index;
-use math::is_finite;
+use refusals::Refusal;
 use search::Settings;
 use words::float::float_of;
 
-fn fed_settings_count(s: State, t: Settings, n: u32) -> Fed
-    ensures { result ≡ number_fed Field.SettingsCount s t n }
+// The next number, with other settings.
+fn told(field: Field, settings: Settings, s: State) -> Fed
+    ensures { result ≡ says Said.Nothing (told_of (Stage.Number field) settings s) }
 {
-    if n != 4 {
-        return refuses(10);
-    }
-    silent(told(Stage::Number(Field::Level), t, s))
+    silent(State {
+        stage: Stage::Number(field),
+        settings,
+        ..s
+    })
 }
 
-fn fed_level(s: State, t: Settings, n: u32) -> Fed
-    ensures { result ≡ number_fed Field.Level s t n }
+#[tactic(auto, unfolding(crate::specs::Machine::provided))]
+fn fed_settings_count(s: State, n: u32) -> Result<Fed, Refusal>
+    ensures { settled result ≡ number_fed Field.SettingsCount s s.settings n }
+{
+    if n != 4 {
+        return Err(Refusal::Malformed);
+    }
+    Ok(told(Field::Level, s.settings, s))
+}
+
+#[tactic(auto, unfolding(crate::specs::Machine::provided))]
+fn fed_level(s: State, n: u32) -> Result<Fed, Refusal>
+    ensures { settled result ≡ number_fed Field.Level s s.settings n }
 {
     if n > 2 {
-        return refuses(4);
+        return Err(Refusal::Level);
     }
     let settings = Settings {
         level: n,
-        threshold: t.threshold,
-        second: t.second,
-        distance: t.distance,
+        ..s.settings
     };
-    silent(told(Stage::Number(Field::Threshold), settings, s))
+    Ok(told(Field::Threshold, settings, s))
 }
 
-fn fed_threshold(s: State, t: Settings, n: u32) -> Fed
-    ensures { result ≡ number_fed Field.Threshold s t n }
+// A threshold has to be finite.
+#[tactic(auto, using(math::proofs::Finite::finite_is))]
+fn threshold_of(n: u32) -> Result<f32, Refusal>
+    ensures { let x = of_bits binary32 n in result ≡ cond (finite x) (Ok x) (Err Refusal.Threshold) }
 {
     let x = float_of(n);
-    if !is_finite(x) {
-        return refuses(5);
+    if x.is_finite() {
+        Ok(x)
+    } else {
+        Err(Refusal::Threshold)
     }
-    let settings = Settings {
-        level: t.level,
-        threshold: x,
-        second: t.second,
-        distance: t.distance,
-    };
-    silent(told(Stage::Number(Field::Second), settings, s))
 }
 
-fn fed_second(s: State, t: Settings, n: u32) -> Fed
-    ensures { result ≡ number_fed Field.Second s t n }
+#[tactic(auto, unfolding(crate::specs::Machine::provided))]
+fn fed_threshold(s: State, n: u32) -> Result<Fed, Refusal>
+    ensures { settled result ≡ number_fed Field.Threshold s s.settings n }
 {
-    let x = float_of(n);
-    if !is_finite(x) {
-        return refuses(5);
-    }
     let settings = Settings {
-        level: t.level,
-        threshold: t.threshold,
-        second: x,
-        distance: t.distance,
+        threshold: threshold_of(n)?,
+        ..s.settings
     };
-    silent(told(Stage::Number(Field::Distance), settings, s))
+    Ok(told(Field::Second, settings, s))
 }
 
-fn fed_distance(s: State, t: Settings, n: u32) -> Fed
-    ensures { result ≡ number_fed Field.Distance s t n }
+#[tactic(auto, unfolding(crate::specs::Machine::provided))]
+fn fed_second(s: State, n: u32) -> Result<Fed, Refusal>
+    ensures { settled result ≡ number_fed Field.Second s s.settings n }
 {
     let settings = Settings {
-        level: t.level,
-        threshold: t.threshold,
-        second: t.second,
+        second: threshold_of(n)?,
+        ..s.settings
+    };
+    Ok(told(Field::Distance, settings, s))
+}
+
+fn fed_distance(s: State, n: u32) -> Fed
+    ensures { result ≡ number_fed Field.Distance s s.settings n }
+{
+    let settings = Settings {
         distance: n,
+        ..s.settings
     };
-    silent(told(Stage::Number(Field::WindowCount), settings, s))
+    told(Field::WindowCount, settings, s)
 }
 
-fn fed_window_count(s: State, t: Settings, n: u32) -> Fed
-    ensures { result ≡ number_fed Field.WindowCount s t n }
+#[tactic(auto, unfolding(crate::specs::Machine::provided))]
+fn fed_window_count(s: State, n: u32) -> Result<Fed, Refusal>
+    ensures { settled result ≡ number_fed Field.WindowCount s s.settings n }
 {
     if n > 64 {
-        return refuses(10);
+        return Err(Refusal::Malformed);
     }
-    silent(counted(index_stage(0, n), n, 0, s))
+    Ok(silent(State {
+        stage: index_stage(0, n),
+        windows: n,
+        done: 0,
+        ..s
+    }))
 }
 
-fn fed_sample_count(s: State, t: Settings, n: u32) -> Fed
-    ensures { result ≡ number_fed Field.SampleCount s t n }
+#[tactic(auto, unfolding(crate::specs::Machine::provided))]
+fn fed_sample_count(s: State, n: u32) -> Result<Fed, Refusal>
+    ensures { settled result ≡ number_fed Field.SampleCount s s.settings n }
 {
-    let windows = s.windows;
-    if n as u64 != 2310 * (windows as u64) {
-        return refuses(10);
+    if u64::from(n) != 2310 * u64::from(s.windows) {
+        return Err(Refusal::Malformed);
     }
-    Fed {
-        state: counted(samples_stage(0, windows), windows, 0, s),
-        said: Said::Head(windows),
-    }
+    Ok(Fed {
+        state: State {
+            stage: samples_stage(0, s.windows),
+            done: 0,
+            ..s
+        },
+        said: Said::Head(s.windows),
+    })
 }
 
-// A number of 32 bits. `t` has the settings so far.
-pub fn fed_number(f: Field, s: State, n: u32) -> Fed
-    ensures { result ≡ number_fed f s s.settings n }
+// A number of 32 bits.
+pub fn fed_number(f: Field, s: State, n: u32) -> Result<Fed, Refusal>
+    ensures { settled result ≡ number_fed f s s.settings n }
 {
-    let t = s.settings;
     match f {
-        Field::SettingsCount => fed_settings_count(s, t, n),
-        Field::Level => fed_level(s, t, n),
-        Field::Threshold => fed_threshold(s, t, n),
-        Field::Second => fed_second(s, t, n),
-        Field::Distance => fed_distance(s, t, n),
-        Field::WindowCount => fed_window_count(s, t, n),
-        Field::SampleCount => fed_sample_count(s, t, n),
+        Field::SettingsCount => fed_settings_count(s, n),
+        Field::Level => fed_level(s, n),
+        Field::Threshold => fed_threshold(s, n),
+        Field::Second => fed_second(s, n),
+        Field::Distance => Ok(fed_distance(s, n)),
+        Field::WindowCount => fed_window_count(s, n),
+        Field::SampleCount => fed_sample_count(s, n),
     }
 }
 
-// One index more.
-fn kept(stage: Stage, index: u64, s: State) -> State
-    requires { s.done < 64 }
-    ensures { result ≡ kept_of stage index s }
+// The index of a window, one more.
+#[tactic(auto, using(crate::proofs::Indices::refused_index), unfolding(crate::specs::Machine::index_fed, crate::specs::Machine::provided))]
+pub fn fed_index(s: State, index: u64) -> Result<Fed, Refusal>
+    ensures { settled result ≡ index_fed s index }
 {
-    let done = s.done;
-    let settings = s.settings;
+    if s.done >= 64 {
+        return Err(Refusal::Malformed);
+    }
+    check_index(index)?;
     let mut indices = s.indices;
-    indices[done as usize] = index;
-    State {
-        stage,
-        settings,
-        windows: s.windows,
-        done: done + 1,
+    indices[s.done as usize] = index;
+    Ok(silent(State {
+        stage: index_stage(s.done + 1, s.windows),
+        done: s.done + 1,
         indices,
-    }
-}
-
-// The index of a window.
-pub fn fed_index(s: State, index: u64) -> Fed
-    ensures { result ≡ index_fed s index }
-{
-    let done = s.done;
-    if done >= 64 {
-        return refuses(10);
-    }
-    if check_index(index) != 0 {
-        return refuses(6);
-    }
-    silent(kept(index_stage(done + 1, s.windows), index, s))
+        ..s
+    }))
 }

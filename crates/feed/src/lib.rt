@@ -7,10 +7,11 @@ pub mod machine;
 mod moves;
 mod samples;
 
+use refusals::Refusal;
 use search::Settings;
 
 // The numbers of 32 bits before the samples, in their order.
-#[derive(Clone, Copy)]
+#[derive(Clone, Copy, Debug, PartialEq, Eq)]
 pub enum Field {
     SettingsCount,
     Level,
@@ -22,7 +23,7 @@ pub enum Field {
 }
 
 // What the next part holds. The indices come between the window count and the sample count. Over: no part is wanted any more.
-#[derive(Clone, Copy)]
+#[derive(Clone, Copy, Debug, PartialEq, Eq)]
 pub enum Stage {
     Number(Field),
     Index,
@@ -33,7 +34,7 @@ pub enum Stage {
 
 // What is known of an input so far: its settings, how many windows it announces, how many of their indices, then of their samples,
 // came, and the indices.
-#[derive(Clone, Copy)]
+#[derive(Clone, Copy, Debug, PartialEq)]
 pub struct State {
     pub stage: Stage,
     pub settings: Settings,
@@ -43,7 +44,7 @@ pub struct State {
 }
 
 // A window whose samples are the part that came.
-#[derive(Clone, Copy)]
+#[derive(Clone, Copy, Debug, PartialEq)]
 pub struct Shot {
     pub window: u32,
     pub settings: Settings,
@@ -51,16 +52,16 @@ pub struct Shot {
 }
 
 // What is to be said: so many windows are announced, a window came, or a refusal that ends it all.
-#[derive(Clone, Copy)]
+#[derive(Clone, Copy, Debug, PartialEq)]
 pub enum Said {
     Nothing,
     Head(u32),
     Window(Shot),
-    Refused(u32),
+    Refused(Refusal),
 }
 
 // What becomes of a state, and what is to be said.
-#[derive(Clone, Copy)]
+#[derive(Clone, Copy, Debug, PartialEq)]
 pub struct Fed {
     pub state: State,
     pub said: Said,

@@ -1,15 +1,17 @@
 // An input in parts: what is wanted, what becomes of it, what is to be said.
-ghost use Rattle.std.specs.Prelude.{◌≡◌, length};
-ghost use Rattle.words.specs.Words.{little_endian};
-ghost use Rattle.feed.specs.Machine.{start_of, wanted_of, fed_of, failed_of, number_fed, index_fed, samples_fed, sized, says, blank_of};
+ghost use Rattle.std.specs.Prelude.{◌≡◌, cond, eqb, length, Ok, Err};
+ghost use Rattle.feed.specs.Machine.{start_of, wanted_of, fed_of, failed_of};
+ghost use Rattle.feed.specs.Inner.{settled};
 
 use crate::head::{fed_index, fed_number};
 use crate::moves::{blank, refuses, silent};
 use crate::samples::fed_samples;
-use crate::{Fed, Field, Said, Stage, State};
+use crate::{Fed, Field, Stage, State};
+use refusals::Refusal;
 use words::numbers::{long, word};
 
 // Before the first part.
+#[tactic(auto, unfolding(crate::specs::Machine::start_of))]
 pub fn start() -> State
     ensures { result ≡ start_of }
 {
@@ -17,11 +19,11 @@ pub fn start() -> State
 }
 
 // How many bytes the next part has; 0: all is over.
+#[tactic(auto, unfolding(crate::specs::Machine::wanted_of))]
 pub fn wanted(state: State) -> usize
     ensures { result ≡ wanted_of state }
 {
-    let stage = state.stage;
-    match stage {
+    match state.stage {
         Stage::Number(_) => 4,
         Stage::Index => 8,
         Stage::Samples => 9240,
@@ -30,78 +32,43 @@ pub fn wanted(state: State) -> usize
     }
 }
 
-fn word_of(part: &[u8]) -> u32
-    requires { length part.now ≡ 4 }
-    ensures { result ≡ little_endian part.now }
+// The bytes of a part. One of another length is malformed.
+fn bytes_of<const N: usize>(part: &[u8]) -> Result<[u8; N], Refusal>
+    ensures { result ≡ cond (eqb (length part.now) N) (Ok part.now) (Err Refusal.Malformed) }
 {
-    word([part[0], part[1], part[2], part[3]])
+    part.try_into().map_err(|_| Refusal::Malformed)
 }
 
-fn long_of(part: &[u8]) -> u64
-    requires { length part.now ≡ 8 }
-    ensures { result ≡ little_endian part.now }
+// What becomes of a state with the part that was wanted.
+#[tactic(auto, unfolding(crate::specs::Machine::fed_of, crate::specs::Machine::sized, crate::specs::Machine::provided))]
+fn taken(state: State, part: &[u8]) -> Result<Fed, Refusal>
+    ensures { settled result ≡ fed_of state part.now }
 {
-    long([
-        part[0], part[1], part[2], part[3], part[4], part[5], part[6], part[7],
-    ])
-}
-
-fn with_number(f: Field, state: State, part: &[u8]) -> Fed
-    ensures { result ≡ sized 4 part.now (number_fed f state state.settings (little_endian part.now)) }
-{
-    if part.len() != 4 {
-        return refuses(10);
+    match state.stage {
+        Stage::Number(f) => fed_number(f, state, word(bytes_of(part)?)),
+        Stage::Index => fed_index(state, long(bytes_of(part)?)),
+        Stage::Samples if part.len() == 9240 => fed_samples(state),
+        Stage::End if part.is_empty() => Ok(silent(blank(Stage::Over))),
+        Stage::Samples | Stage::End => Err(Refusal::Malformed),
+        Stage::Over => Ok(silent(state)),
     }
-    fed_number(f, state, word_of(part))
-}
-
-fn with_index(state: State, part: &[u8]) -> Fed
-    ensures { result ≡ sized 8 part.now (index_fed state (little_endian part.now)) }
-{
-    if part.len() != 8 {
-        return refuses(10);
-    }
-    fed_index(state, long_of(part))
-}
-
-fn with_samples(state: State, part: &[u8]) -> Fed
-    ensures { result ≡ sized 9240 part.now (samples_fed state) }
-{
-    if part.len() != 9240 {
-        return refuses(10);
-    }
-    fed_samples(state)
-}
-
-fn with_end(part: &[u8]) -> Fed
-    ensures { result ≡ sized 0 part.now (says Said.Nothing (blank_of Stage.Over)) }
-{
-    if part.len() != 0 {
-        return refuses(10);
-    }
-    silent(blank(Stage::Over))
 }
 
 // Takes the part that was wanted. A shorter one says that the input ended there; a longer one is malformed.
 pub fn feed(state: State, part: &[u8]) -> Fed
     ensures { result ≡ fed_of state part.now }
 {
-    let stage = state.stage;
-    match stage {
-        Stage::Number(f) => with_number(f, state, part),
-        Stage::Index => with_index(state, part),
-        Stage::Samples => with_samples(state, part),
-        Stage::End => with_end(part),
-        Stage::Over => silent(state),
-    }
+    taken(state, part).unwrap_or_else(refuses)
 }
 
 // The part could not be read.
+#[tactic(auto, unfolding(crate::specs::Machine::failed_of))]
 pub fn failed(state: State) -> Fed
     ensures { result ≡ failed_of state }
 {
     if wanted(state) == 0 {
-        return silent(state);
+        silent(state)
+    } else {
+        refuses(Refusal::Malformed)
     }
-    refuses(10)
 }

@@ -1,35 +1,30 @@
 // What is done with the samples of a window: the window is told, and the next one wanted.
-ghost use Rattle.std.specs.Prelude.{◌≡◌, ◌<◌};
-ghost use Rattle.feed.specs.Machine.{shot_of, samples_fed};
+ghost use Rattle.std.specs.Prelude.{◌≡◌};
+ghost use Rattle.feed.specs.Machine.{samples_fed};
+ghost use Rattle.feed.specs.Inner.{settled};
 
-use crate::moves::{counted, refuses, samples_stage};
+use crate::moves::samples_stage;
 use crate::{Fed, Said, Shot, State};
+use refusals::Refusal;
 
-// The window whose samples came.
-fn shot(s: State) -> Shot
-    requires { s.done < 64 }
-    ensures { result ≡ shot_of s }
+#[tactic(auto, unfolding(crate::specs::Machine::samples_fed, crate::specs::Machine::provided))]
+pub fn fed_samples(s: State) -> Result<Fed, Refusal>
+    ensures { settled result ≡ samples_fed s }
 {
-    let k = s.done as usize;
-    let settings = s.settings;
-    let indices = s.indices;
-    Shot {
+    if s.done >= 64 {
+        return Err(Refusal::Malformed);
+    }
+    let shot = Shot {
         window: s.done,
-        settings,
-        index: indices[k],
-    }
-}
-
-pub fn fed_samples(s: State) -> Fed
-    ensures { result ≡ samples_fed s }
-{
-    let done = s.done;
-    let windows = s.windows;
-    if done >= 64 {
-        return refuses(10);
-    }
-    Fed {
-        state: counted(samples_stage(done + 1, windows), windows, done + 1, s),
-        said: Said::Window(shot(s)),
-    }
+        settings: s.settings,
+        index: s.indices[s.done as usize],
+    };
+    Ok(Fed {
+        state: State {
+            stage: samples_stage(s.done + 1, s.windows),
+            done: s.done + 1,
+            ..s
+        },
+        said: Said::Window(shot),
+    })
 }

@@ -1,79 +1,59 @@
--- The header check of either kind, and its exits in the order in which they are met.
+-- The header check of either kind.
+--     header_checked     counted positions that are below 256, and then the check of a kind
 -- Assumes nothing.
-use mathlib.Core.Path.{◌≡◌, refl, ap, ◌∙◌}
-use mathlib.Core.Bool.{Bool, true, false, cond, ◌&&◌}
-use Prim.Native.Nat.{ℕ, ◌*◌, ◌<◌, ◌≤◌}
-use lib.Dec.{eqb, ltb}
-use borrow.Author.Tests.{le-ltb, le-leb, lt-leb, ne_eqb}
-use Rattle.lists.specs.Told.{Told, refused}
+use mathlib.Core.Path.{◌≡◌, refl, sym, ap, ◌∙◌}
+use mathlib.Core.Bool.{Bool, true, false, cond, true≢false}
+use mathlib.Core.Option.{none, some}
+use Prim.Native.Nat.{ℕ, ◌≤◌}
+use native.Mathlib.Omega.{arith}
+use Rattle.std.proofs.lemmas.Bool.Decides.{nat_tests}
+use Rattle.std.specs.Prelude.{Result, Ok, Err}
+use Rattle.std.specs.Result.{MatchResult}
+use Rattle.lists.specs.Told.{Told, refused, tell, and_then}
+use Rattle.lists.proofs.Telling.{same_values, not_done}
+use Rattle.refusals.specs.declared.Refusal.{Refusal}
+use Rattle.refusals.specs.Refusals.{number, told}
 use Rattle.annex10.specs.declared.Repairs.{Repairs}
 use Rattle.annex10.specs.declared.Repairs.TheVariants.{None, One, Two}
-use Rattle.annex10.specs.Header.{long_header, short_header}
 use Rattle.annex10.specs.Repair.{inside}
-use Rattle.mode_s.specs.declared.message.MessageKind.{MessageKind}
-use Rattle.mode_s.specs.declared.message.MessageKind.TheVariants.{Short, Long}
 use Rattle.mode_s.specs.Header.{header_of}
 use Rattle.mode_s.specs.Counted.{counted_repairs}
-use Rattle.search.specs.Kinds.{Kind, long, short}
-use Rattle.receiver.specs.Inner.{kind_of}
-use Rattle.khlongrae.specs.declared.header.FlatHeader.{FlatHeader}
-use Rattle.khlongrae.specs.Headers.{flat_header, header_check}
+use Rattle.search.specs.Kinds.{Kind}
+use Rattle.khlongrae.specs.Headers.{header_check}
+use Rattle.khlongrae.specs.Inner.{narrow_repairs}
 
--- ---- the check of a kind
+wider : (b : ℕ) (ρ : Repairs) → b ≤ 32 → inside 32 ρ ≡ false → inside b ρ ≡ false
+wider b None h e = absurd (true≢false e)
+wider b (One j) h e = grind (arith, nat_tests)
+wider b (Two j k) h e = grind (arith, nat_tests)
 
-abbrev kind_checked : Kind → ℕ → Repairs → FlatHeader
-kind_checked kind first ρ = flat_header (header_of kind.bytes kind.header first ρ)
-
-module _ (kind : MessageKind) (first : ℕ) (ρ : Repairs) {x : FlatHeader} {v : Told Bool} where
-  pub short_checked : kind ≡ Short → v ≡ header_of 7 short_header first ρ → x ≡ flat_header v → x ≡ kind_checked (kind_of kind) first ρ
-  unfolding short
-  short_checked k h e = e ∙ (ap flat_header h ∙ rw k)
-
-  pub long_checked : kind ≡ Long → v ≡ header_of 14 long_header first ρ → x ≡ flat_header v → x ≡ kind_checked (kind_of kind) first ρ
-  unfolding long
-  long_checked k h e = e ∙ (ap flat_header h ∙ rw k)
-
--- ---- the exits
-
-outside : (kind : Kind) (first : ℕ) (ρ : Repairs) → inside kind.bytes ρ ≡ false → header_of kind.bytes kind.header first ρ ≡ refused 8
+outside : (kind : Kind) (first : ℕ) (ρ : Repairs) → kind.bytes ≤ 32 → inside 32 ρ ≡ false → header_of kind.bytes kind.header first ρ ≡ refused 8
 unfolding header_of
-outside kind first ρ h = rw h
+outside kind first ρ b h = rw (wider kind.bytes ρ b h)
 
-nor_right : (b : Bool) → (b && false) ≡ false
-nor_right true = refl
-nor_right false = refl
+module _ (kind : Kind) (first : ℕ) (b : kind.bytes ≤ 32) (x : Result Bool Refusal) where
+  abbrev Checked : Result Repairs Refusal → Type 0
+  Checked r = MatchResult r (λ ρ. told x ≡ header_of kind.bytes kind.header first ρ) (λ e. x ≡ Err e)
 
-either : (n : ℕ) (b : Bool) (ρ σ : Repairs) → inside n ρ ≡ false → inside n σ ≡ false → inside n (cond b ρ σ) ≡ false
-either n true ρ σ e f = e
-either n false ρ σ e f = f
+  -- what is refused of the positions is the answer
+  handed_on : {e : Refusal} {n : ℕ} → x ≡ Err e → ◌≡◌ {A = Told Repairs} (refused (number e)) (refused n) → told x ≡ refused n
+  handed_on q h = ap told q ∙ ap refused (ap (λ (t : Told Repairs). t.0) h)
 
-module _ (kind : Kind) (first count j k : ℕ) {x : FlatHeader} where
-  pub count_refused : 2 < count → x ≡ flat_header (refused 4) → x ≡ flat_header (header_check kind first count j k)
-  unfolding header_check counted_repairs
-  count_refused h e = e ∙ rw (lt-leb _ _ h)
+  narrow : (ρ : Repairs) (t : Bool) (r : Result Repairs Refusal) → inside 32 ρ ≡ t → told r ≡ tell (cond t 0 8) ρ → Checked r
+      → told x ≡ header_of kind.bytes kind.header first ρ
+  narrow ρ true (Ok σ) i h m = rw (same_values h) at m
+  narrow ρ true (Err e) i h m = absurd (not_done h)
+  narrow ρ false (Ok σ) i h m = absurd (not_done (sym h))
+  narrow ρ false (Err e) i h m = handed_on m h ∙ sym (outside kind first ρ b i)
 
-  pub none_checked : count ≡ 0 → x ≡ kind_checked kind first None → x ≡ flat_header (header_check kind first count j k)
-  unfolding header_check counted_repairs
-  none_checked h e = e ∙ rw h
+  each : (t : Told Repairs) (r : Result Repairs Refusal) → told r ≡ and_then t (λ ρ. tell (cond (inside 32 ρ) 0 8) ρ) → Checked r
+      → told x ≡ and_then t (header_of kind.bytes kind.header first)
+  each (n, some ρ) r h m = narrow ρ (inside 32 ρ) r refl h m
+  each (n, none) (Ok σ) h m = absurd (not_done (sym h))
+  each (n, none) (Err e) h m = handed_on m h
 
-  -- j is looked at where something is counted
-  pub first_refused : count ≤ 2 → (count ≡ 0 → ⊥) → 8 * kind.bytes ≤ j → x ≡ flat_header (refused 8) → x ≡ flat_header (header_check kind first count j k)
-  unfolding header_check counted_repairs
-  first_refused a b h e =
-      e ∙ rw (le-leb _ _ a, ne_eqb _ _ b, outside kind first (cond (eqb count 1) (One j) (Two j k)) (either kind.bytes (eqb count 1) (One j) (Two j k) (le-ltb _ _ h) (rw (le-ltb j (8 * kind.bytes) h))))
-
-  pub one_checked : count ≡ 1 → x ≡ kind_checked kind first (One j) → x ≡ flat_header (header_check kind first count j k)
-  unfolding header_check counted_repairs
-  one_checked h e = e ∙ rw h
-
-  -- k is looked at where two are counted
-  pub second_refused : count ≤ 2 → (count ≡ 0 → ⊥) → (count ≡ 1 → ⊥) → 8 * kind.bytes ≤ k → x ≡ flat_header (refused 8)
-      → x ≡ flat_header (header_check kind first count j k)
-  unfolding header_check counted_repairs
-  second_refused a b d h e =
-      e ∙ rw (le-leb _ _ a, ne_eqb _ _ b, ne_eqb _ _ d, outside kind first (Two j k) (rw (le-ltb k (8 * kind.bytes) h) (nor_right (ltb j (8 * kind.bytes)))))
-
-  pub two_checked : count ≤ 2 → (count ≡ 0 → ⊥) → (count ≡ 1 → ⊥) → x ≡ kind_checked kind first (Two j k)
-      → x ≡ flat_header (header_check kind first count j k)
-  unfolding header_check counted_repairs
-  two_checked a b d e = e ∙ rw (le-leb _ _ a, ne_eqb _ _ b, ne_eqb _ _ d)
+pub header_checked : (kind : Kind) (first count j k : ℕ) (r : Result Repairs Refusal) (x : Result Bool Refusal) → kind.bytes ≤ 32
+    → told r ≡ narrow_repairs count j k → MatchResult r (λ ρ. told x ≡ header_of kind.bytes kind.header first ρ) (λ e. x ≡ Err e)
+    → told x ≡ header_check kind first count j k
+unfolding header_check narrow_repairs
+header_checked kind first count j k r x b h m = each kind first b x (counted_repairs count j k) r h m

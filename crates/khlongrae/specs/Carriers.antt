@@ -1,10 +1,11 @@
 -- The answers of the carrier calls, flat: number 0 with the values, or a refusal's number with zeros.
 -- Assumes nothing.
-use Rattle.std.specs.Prelude.{Bool, ℕ, Float}
+use Rattle.std.specs.Prelude.{Bool, Float}
 use Rattle.std.proofs.Math.Option.{none, some}
 use Rattle.lists.specs.Bits.{as_bit}
 use Rattle.lists.specs.Told.{Told}
 use Rattle.floats.specs.Numbers.{zero_f}
+use Rattle.carrier.specs.declared.search.Best.{Best}
 use Rattle.carrier.specs.Carriers.{CarrierValues}
 use Rattle.khlongrae.specs.declared.spectrum.FlatSearch.{FlatSearch}
 use Rattle.khlongrae.specs.declared.spectrum.FlatFloor.{FlatFloor}
@@ -12,8 +13,8 @@ use Rattle.khlongrae.specs.declared.spectrum.FlatCarrier.{FlatCarrier}
 use Rattle.khlongrae.specs.declared.spectrum.FlatMaximum.{FlatMaximum}
 
 -- the strongest bin
-abbrev pub flat_search : Told (ℕ × Float) → FlatSearch
-flat_search (n, some (bin, value)) = record { number = n; bin = bin; value = value }
+abbrev pub flat_search : Told Best → FlatSearch
+flat_search (n, some best) = record { number = n; bin = best.bin; value = best.value }
 flat_search (n, none) = record { number = n; bin = 0; value = zero_f }
 
 -- the power beside a bin

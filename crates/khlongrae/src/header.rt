@@ -1,74 +1,57 @@
 // The header check of a first byte with its repairs.
-ghost use Rattle.std.specs.Prelude.{◌≡◌, ◌*◌, ◌≤◌};
-ghost use Rattle.lists.specs.Told.{refused};
-ghost use Rattle.mode_s.specs.Header.{validity_told, header_of};
+ghost use Rattle.std.specs.Prelude.{◌≡◌, cond, ltb};
+ghost use Rattle.lists.specs.Told.{tell};
+ghost use Rattle.refusals.specs.Refusals.{told};
 ghost use Rattle.search.specs.Kinds.{long, short};
-ghost use Rattle.receiver.specs.Inner.{kind_of};
 ghost use Rattle.khlongrae.specs.Headers.{flat_header, header_check};
+ghost use Rattle.khlongrae.specs.Inner.{narrow_repairs};
 
-use annex10::Repairs;
-use mode_s::header::{Validity, header_is_valid, header_is_valid_short};
-use mode_s::message::MessageKind;
+use annex10::{MessageKind, Repairs};
+use mode_s::header::header_is_valid;
+use refusals::Refusal;
 
 #[repr(C)]
-#[derive(Clone, Copy)]
+#[derive(Clone, Copy, Debug, PartialEq, Eq)]
 pub struct FlatHeader {
     pub number: u32,
     pub valid: u32,
 }
 
-fn refused(number: u32) -> FlatHeader
-    ensures { result ≡ flat_header (refused number) }
-{
-    FlatHeader { number, valid: 0 }
-}
+impl From<Result<bool, Refusal>> for FlatHeader {
+    ghost from_gives = { λ checked flat. flat ≡ flat_header (told checked) };
 
-fn flat(v: Validity) -> FlatHeader
-    ensures { result ≡ flat_header (validity_told v) }
-{
-    match v {
-        Validity::Valid => FlatHeader {
-            number: 0,
-            valid: 1,
-        },
-        Validity::Invalid => FlatHeader {
-            number: 0,
-            valid: 0,
-        },
-        Validity::Refused(number) => refused(number),
+    fn from(checked: Result<bool, Refusal>) -> FlatHeader {
+        match checked {
+            Ok(valid) => FlatHeader {
+                number: 0,
+                valid: u32::from(valid),
+            },
+            Err(refusal) => FlatHeader {
+                number: refusal.number(),
+                valid: 0,
+            },
+        }
     }
 }
 
-fn check(kind: MessageKind, first: u8, repairs: Repairs) -> FlatHeader
-    ensures { result ≡ flat_header (header_of (kind_of kind).bytes (kind_of kind).header first repairs) }
+// No message has a position above 255.
+fn position(j: u32) -> Result<u8, Refusal>
+    ensures { told result ≡ tell (cond (ltb j 256) 0 8) j }
 {
-    match kind {
-        MessageKind::Short => flat(header_is_valid_short(first, repairs)),
-        MessageKind::Long => flat(header_is_valid(first, repairs)),
-    }
+    u8::try_from(j).map_err(|_| Refusal::Position)
 }
 
-// The check of a message of so many bits, with `count` positions.
-fn check_counted(kind: MessageKind, bits: u32, first: u8, count: u32, j: u32, k: u32) -> FlatHeader
-    requires { (bits ≡ 8 * (kind_of kind).bytes) × (bits ≤ 112) }
-    ensures { result ≡ flat_header (header_check (kind_of kind) first count j k) }
+// What is not counted is not looked at.
+#[tactic(auto, unfolding(crate::specs::Inner::narrow_repairs, mode_s::specs::Counted::counted_repairs))]
+fn counted_repairs(count: u32, j: u32, k: u32) -> Result<Repairs, Refusal>
+    ensures { told result ≡ narrow_repairs count j k }
 {
-    if count > 2 {
-        return refused(4);
+    match count {
+        0 => Ok(Repairs::None),
+        1 => Ok(Repairs::One(position(j)?)),
+        2 => Ok(Repairs::Two(position(j)?, position(k)?)),
+        _ => Err(Refusal::Level),
     }
-    if count == 0 {
-        return check(kind, first, Repairs::None);
-    }
-    if j >= bits {
-        return refused(8);
-    }
-    if count == 1 {
-        return check(kind, first, Repairs::One(j as u8));
-    }
-    if k >= bits {
-        return refused(8);
-    }
-    check(kind, first, Repairs::Two(j as u8, k as u8))
 }
 
 // Whether the first byte of a 14-byte message is that of an extended squitter once `count` positions are repaired: none, j, or j
@@ -76,12 +59,16 @@ fn check_counted(kind: MessageKind, bits: u32, first: u8, count: u32, j: u32, k:
 pub fn khlongrae_header(first: u8, count: u32, j: u32, k: u32) -> FlatHeader
     ensures { result ≡ flat_header (header_check long first count j k) }
 {
-    check_counted(MessageKind::Long, 112, first, count, j, k)
+    counted_repairs(count, j, k)
+        .and_then(|repairs| header_is_valid(MessageKind::Long, first, repairs))
+        .into()
 }
 
 // Whether that of a 7-byte message is that of an acquisition squitter. Refused: 4, and 8 a counted position above 55.
 pub fn khlongrae_header_short(first: u8, count: u32, j: u32, k: u32) -> FlatHeader
     ensures { result ≡ flat_header (header_check short first count j k) }
 {
-    check_counted(MessageKind::Short, 56, first, count, j, k)
+    counted_repairs(count, j, k)
+        .and_then(|repairs| header_is_valid(MessageKind::Short, first, repairs))
+        .into()
 }

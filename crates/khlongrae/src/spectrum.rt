@@ -6,13 +6,11 @@ ghost use Rattle.carrier.specs.Carriers.{carrier_of};
 ghost use Rattle.carrier.specs.Maxima.{maximum_of};
 ghost use Rattle.khlongrae.specs.Carriers.{flat_search, flat_floor, flat_carrier, flat_maximum};
 
-use carrier::maximum::LocalMaximum;
 use carrier::metric::Carrier;
-use carrier::notch::Floor;
-use carrier::search::Search;
+use carrier::search::Best;
 
 #[repr(C)]
-#[derive(Clone, Copy)]
+#[derive(Clone, Copy, Debug, PartialEq)]
 pub struct FlatSearch {
     pub number: u32,
     pub bin: usize,
@@ -20,14 +18,14 @@ pub struct FlatSearch {
 }
 
 #[repr(C)]
-#[derive(Clone, Copy)]
+#[derive(Clone, Copy, Debug, PartialEq)]
 pub struct FlatFloor {
     pub number: u32,
     pub floor: f32,
 }
 
 #[repr(C)]
-#[derive(Clone, Copy)]
+#[derive(Clone, Copy, Debug, PartialEq)]
 pub struct FlatCarrier {
     pub number: u32,
     pub peak: u32,
@@ -38,7 +36,7 @@ pub struct FlatCarrier {
 }
 
 #[repr(C)]
-#[derive(Clone, Copy)]
+#[derive(Clone, Copy, Debug, PartialEq, Eq)]
 pub struct FlatMaximum {
     pub number: u32,
     pub yes: u32,
@@ -48,13 +46,13 @@ pub fn khlongrae_long_fft_max_search(spectrum: &[f32], search: usize) -> FlatSea
     ensures { result ≡ flat_search (search_of spectrum.now search) }
 {
     match carrier::search::long_fft_max_search(spectrum, search) {
-        Search::Found { bin, value } => FlatSearch {
+        Ok(Best { bin, value }) => FlatSearch {
             number: 0,
             bin,
             value,
         },
-        Search::Refused(number) => FlatSearch {
-            number,
+        Err(refusal) => FlatSearch {
+            number: refusal.number(),
             bin: 0,
             value: 0.0,
         },
@@ -65,8 +63,11 @@ pub fn khlongrae_carrier_notched_power(spectrum: &[f32], bin: usize, notch: usiz
     ensures { result ≡ flat_floor (floor_at spectrum.now bin notch) }
 {
     match carrier::notch::carrier_notched_power(spectrum, bin, notch) {
-        Floor::Is(floor) => FlatFloor { number: 0, floor },
-        Floor::Refused(number) => FlatFloor { number, floor: 0.0 },
+        Ok(floor) => FlatFloor { number: 0, floor },
+        Err(refusal) => FlatFloor {
+            number: refusal.number(),
+            floor: 0.0,
+        },
     }
 }
 
@@ -115,8 +116,13 @@ pub fn khlongrae_check_local_maximum(values: &[f32]) -> FlatMaximum
     ensures { result ≡ flat_maximum (maximum_of values.now) }
 {
     match carrier::maximum::check_local_maximum(values) {
-        LocalMaximum::Yes => FlatMaximum { number: 0, yes: 1 },
-        LocalMaximum::No => FlatMaximum { number: 0, yes: 0 },
-        LocalMaximum::Refused(number) => FlatMaximum { number, yes: 0 },
+        Ok(yes) => FlatMaximum {
+            number: 0,
+            yes: u32::from(yes),
+        },
+        Err(refusal) => FlatMaximum {
+            number: refusal.number(),
+            yes: 0,
+        },
     }
 }

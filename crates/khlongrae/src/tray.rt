@@ -5,6 +5,7 @@ ghost use Rattle.khlongrae.specs.Flat.{settings_of};
 
 use crate::settings::settings_of;
 use receiver::tray::{decode_tray, decode_tray_both};
+use refusals::number_of;
 
 // Answers number 0 and writes for each window what khlongrae_decode answers for it, its index and the settings: 14 bytes, 11 whole numbers,
 // of which the last is the window's own number, and 2 floats; zeros where that number is not 0. Refused, with nothing written: 2 more than
@@ -24,7 +25,7 @@ pub fn khlongrae_tray(
     ensures { (result, messages.new, words.new, floats.new) ≡ tray_into (kinds_of false) count samples.now (settings_of level threshold second distance) indices.now (messages.old, words.old, floats.old) }
 {
     let s = settings_of(level, threshold, second, distance);
-    decode_tray(count, samples, s, indices, messages, words, floats)
+    number_of(decode_tray(count, samples, s, indices, messages, words, floats))
 }
 
 // Both searches of each window: 21 bytes, 22 whole numbers and 4 floats, those of the long message and then those of the short one.
@@ -43,5 +44,5 @@ pub fn khlongrae_tray_both(
     ensures { (result, messages.new, words.new, floats.new) ≡ tray_into (kinds_of true) count samples.now (settings_of level threshold second distance) indices.now (messages.old, words.old, floats.old) }
 {
     let s = settings_of(level, threshold, second, distance);
-    decode_tray_both(count, samples, s, indices, messages, words, floats)
+    number_of(decode_tray_both(count, samples, s, indices, messages, words, floats))
 }

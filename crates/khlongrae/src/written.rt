@@ -3,11 +3,13 @@ ghost use Rattle.std.specs.Prelude.{◌≡◌, length};
 ghost use Rattle.search.specs.Short.{of_short};
 ghost use Rattle.khlongrae.specs.Flat.{filled, written};
 
+use refusals::number_of;
 use rows::put_fields;
 use rows::row::words_of;
 use search::{Answer, ShortAnswer};
 
 // Only number 0 is written.
+#[tactic(auto, unfolding(crate::specs::Flat::filled, rows::specs::Rows::fields_into))]
 fn fill(
     number: u32,
     found: &[u8],
@@ -23,7 +25,7 @@ fn fill(
     if number != 0 {
         return number;
     }
-    put_fields(found, row, pair, message, words, numbers)
+    number_of(put_fields(found, row, pair, message, words, numbers))
 }
 
 // An answer: number 0 with its message, words and numbers, or a number that leaves the memory as it was.
@@ -31,13 +33,10 @@ pub fn write(a: Answer, message: &mut [u8], words: &mut [u64], numbers: &mut [f3
     requires { (length message.old ≡ 14) × (length words.old ≡ 10) × (length numbers.old ≡ 2) }
     ensures { (result, message.new, words.new, numbers.new) ≡ written a (message.old, words.old, numbers.old) }
 {
-    let found = a.message;
-    let location = a.location;
-    let row = words_of(a.index, location, a.undecided);
     fill(
         a.number,
-        &found,
-        row,
+        &a.message,
+        words_of(a.index, a.location, a.undecided),
         [a.cn0, a.fraction],
         message,
         words,
@@ -55,13 +54,10 @@ pub fn write_short(
     requires { (length message.old ≡ 7) × (length words.old ≡ 10) × (length numbers.old ≡ 2) }
     ensures { (result, message.new, words.new, numbers.new) ≡ written (of_short a) (message.old, words.old, numbers.old) }
 {
-    let found = a.message;
-    let location = a.location;
-    let row = words_of(a.index, location, a.undecided);
     fill(
         a.number,
-        &found,
-        row,
+        &a.message,
+        words_of(a.index, a.location, a.undecided),
         [a.cn0, a.fraction],
         message,
         words,

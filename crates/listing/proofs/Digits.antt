@@ -9,34 +9,45 @@ use native.Mathlib.Numerals.{add-one}
 use native.Mathlib.Omega.{arith}
 use borrow.Author.Tests.{lt-ltb, le-ltb}
 use lib.Dec.{ltb}
-use lib.ListN.{length, get_or, drop, drop_of_length-le}
-use lib.Seq.{drop-cons}
+use lib.ListN.{length, get_or, take, drop}
+use lib.Seq.{drop-cons, take-suc}
+use mir.Syntax.{w32}
+use Rattle.std.specs.Int.{to_be_bytes}
 use Rattle.mode_s.specs.Avr.{hex_digit, hex_text}
 use Rattle.listing.specs.declared.Text.{Text}
-use Rattle.listing.specs.Fields.{decimal_in, decimal}
+use Rattle.listing.specs.Fields.{decimal_in, decimal, hex_word, address_digits}
 use Rattle.listing.specs.Inner.{put_of, puts}
-use Rattle.listing.proofs.Puts.{puts_both, puts_one}
+use Rattle.listing.proofs.Puts.{puts_nil, puts_cons, puts_append}
 
 -- a byte is two digits
 pub hex_one : (t : Text) (b : ℕ) {u r : Text} {d e : ℕ} → d ≡ hex_digit (b / 16) → u ≡ put_of t d → e ≡ hex_digit (b % 16) → r ≡ put_of u e → r ≡ puts t (hex_text (b ∷ []))
 unfolding puts hex_text
 hex_one t b p q r s = s ∙ rw (q, p, r)
 
--- a byte and the bytes behind it
-pub hex_more : (t : Text) (b : ℕ) (bs : List ℕ) {u r : Text} → u ≡ puts t (hex_text (b ∷ [])) → r ≡ puts u (hex_text bs) → r ≡ puts t (hex_text (b ∷ bs))
-unfolding puts hex_text
-hex_more t b bs e f = f ∙ ap (λ (v : Text). puts v (hex_text bs)) e
+hex_append : (xs ys : List ℕ) → hex_text (xs ++ ys) ≡ hex_text xs ++ hex_text ys
+unfolding hex_text
+hex_append [] ys = refl
+hex_append (x ∷ xs) ys = rw (hex_append xs ys)
 
--- byte i of some, and those behind it
-pub hex_over : (bytes : List ℕ) (i : ℕ) (t : Text) {u : Text} → i < length bytes → u ≡ puts t (hex_text (get_or bytes i 0 ∷ []))
-    → puts u (hex_text (drop (i + 1) bytes)) ≡ puts t (hex_text (drop i bytes))
-hex_over bytes i t h e =
-    hex_more t (get_or bytes i 0) (drop (i + 1) bytes) e refl
-    ∙ ap (λ (l : List ℕ). puts t (hex_text l)) (rw (add-one i) (sym (drop-cons bytes i 0 h)))
+-- the digits of so many bytes, and those of the next
+pub hex_next : (t : Text) (bytes : List ℕ) (i : ℕ) → i < length bytes
+    → puts t (hex_text (take (i + 1) bytes)) ≡ puts (puts t (hex_text (take i bytes))) (hex_text (get_or bytes i 0 ∷ []))
+hex_next t bytes i h =
+    rw (add-one i, take-suc bytes i 0 h, hex_append (take i bytes) (get_or bytes i 0 ∷ [])) (puts_append t _ _)
 
-pub hex_over_done : (bytes : List ℕ) (i : ℕ) (t : Text) → length bytes ≤ i → puts t (hex_text (drop i bytes)) ≡ t
-unfolding puts hex_text
-hex_over_done bytes i t h = ap (λ (l : List ℕ). puts t (hex_text l)) (drop_of_length-le bytes h)
+-- the bytes of a number of 32 bits, the highest first
+pub word_bytes : (n : ℕ) → n < 2 ^ 32 → hex_text (to_be_bytes w32 n) ≡ hex_word n
+unfolding hex_word
+word_bytes n h = ap (λ (b : ℕ). hex_text (b ∷ n / 2 ^ 16 % 256 ∷ n / 2 ^ 8 % 256 ∷ n % 256 ∷ [])) (omega arith)
+
+-- bytes 1 to 3
+pub three_bytes : (m : List ℕ) → 4 ≤ length m → hex_text (take 3 (drop 1 m)) ≡ address_digits m
+unfolding address_digits
+three_bytes m h =
+    let a : 1 < length m = omega arith in
+    let b : 2 < length m = omega arith in
+    let c : 3 < length m = omega arith in
+    rw (drop-cons m 1 0 a, drop-cons m 2 0 b, drop-cons m 3 0 c)
 
 -- more places than a number needs change nothing
 decimal_places : (k n : ℕ) → n < 10 ^ suc k → decimal_in (suc (suc k)) n ≡ decimal_in (suc k) n
@@ -56,9 +67,11 @@ decimal_more n h k =
     rw (le-ltb n 10 h) (ap (λ (l : List ℕ). l ++ ((48 + n % 10) ∷ [])) (sym (decimal_places 18 (n / 10) (omega arith))))
 
 -- a number of one digit
-pub put_small : (t : Text) (n : ℕ) {r : Text} → n < 10 → r ≡ put_of t (48 + n) → r ≡ puts t (decimal n)
-put_small t n h e = puts_one t (48 + n) e ∙ ap (puts t) (sym (decimal_small n h))
+pub put_small : (t : Text) (n : ℕ) → n < 10 → puts t (decimal n) ≡ put_of t (48 + n % 10)
+put_small t n h =
+    let e : n % 10 ≡ n = omega arith in
+    rw (decimal_small n h, puts_cons, puts_nil, e)
 
 -- the digits before the last, and the last
-pub put_more : (t : Text) (n : ℕ) {u r : Text} → 10 ≤ n → n < 2 ^ 64 → u ≡ puts t (decimal (n / 10)) → r ≡ put_of u (48 + n % 10) → r ≡ puts t (decimal n)
-put_more t n h k e f = puts_both t _ _ e (puts_one _ _ f) ∙ ap (puts t) (sym (decimal_more n h k))
+pub put_more : (t : Text) (n : ℕ) → 10 ≤ n → n < 2 ^ 64 → puts t (decimal n) ≡ put_of (puts t (decimal (n / 10))) (48 + n % 10)
+put_more t n h k = rw (decimal_more n h k, puts_append, puts_cons, puts_nil)

@@ -20,7 +20,7 @@ use Rattle.mode_s.specs.Avr.{hex_text}
 use Rattle.mode_s.proofs.Text.{length_avr}
 use Rattle.search.specs.declared.Answer.{Answer}
 use Rattle.listing.specs.Fields.{decimal_in, decimal, hex_word, float_text, address_digits, marked, address_text, repairs_text, slicer_text}
-use Rattle.listing.specs.Lines.{line, head_line, refused_line, none_line, found_line}
+use Rattle.listing.specs.Lines.{line, none_line, found_line}
 
 -- each position is a byte
 abbrev pub InBytes : Repairs → Type 0
@@ -89,13 +89,9 @@ unfolding slicer_text
 slicer_long Coherent = refl
 slicer_long Noncoherent = refl
 
-pub head_short : (n : ℕ) → length (head_line n) ≤ 256
-unfolding head_line line
-head_short n = simp length-append (omega (arith, decimal_short n))
-
-pub refused_short : (n : ℕ) → length (refused_line n) ≤ 256
-unfolding refused_line line
-refused_short n = simp length-append (omega (arith, decimal_short n))
+pub word_short : (word : List ℕ) (n : ℕ) → length word ≤ 7 → length (line (word ∷ decimal n ∷ [])) ≤ 256
+unfolding line
+word_short word n h = simp length-append (omega (arith, decimal_short n))
 
 pub none_short : (n : ℕ) → length (none_line n) ≤ 256
 unfolding none_line line

@@ -5,36 +5,32 @@ use mathlib.Core.List.{List, [], ◌∷◌, ◌++◌, foldl-append, append-nil}
 use Prim.Native.Nat.{ℕ, suc, ◌+◌, ◌-◌, ◌≤◌, ◌<◌}
 use native.Mathlib.Omega.{arith}
 use borrow.Author.Tests.{lt-leb}
-use lib.ListN.{length, replicate, set, length-append}
-use lib.Seq.{set_at, append_snoc}
+use native.Mathlib.Numerals.{add-one}
+use lib.ListN.{length, take, get_or, replicate, set, length-append}
+use lib.Seq.{set_at, append_snoc, take-suc}
 use Rattle.listing.specs.declared.Text.{Text}
-use Rattle.listing.specs.Lines.{line, text_of}
+use Rattle.listing.specs.Lines.{text_of}
 use Rattle.listing.specs.Inner.{put_of, puts}
 
--- some bytes, and others behind them
-pub puts_both : (t : Text) (xs ys : List ℕ) {u r : Text} → u ≡ puts t xs → r ≡ puts u ys → r ≡ puts t (xs ++ ys)
+-- so many bytes, and the next
+pub puts_next : (t : Text) (bytes : List ℕ) (i : ℕ) → i < length bytes → puts t (take (i + 1) bytes) ≡ put_of (puts t (take i bytes)) (get_or bytes i 0)
 unfolding puts
-puts_both t xs ys e f = f ∙ ap (λ (v : Text). puts v ys) e ∙ sym (foldl-append put_of t xs ys)
+puts_next t bytes i h = rw (add-one, take-suc bytes i 0) (foldl-append put_of t (take i bytes) (get_or bytes i 0 ∷ []))
 
--- one byte, and others behind it
-pub puts_cons : (t : Text) (b : ℕ) (ys : List ℕ) {u r : Text} → u ≡ put_of t b → r ≡ puts u ys → r ≡ puts t (b ∷ ys)
+-- byte by byte, and part by part
+pub puts_nil : (t : Text) → puts t [] ≡ t
 unfolding puts
-puts_cons t b ys e f = f ∙ ap (λ (v : Text). puts v ys) e
+puts_nil t = refl
 
--- one byte alone
-pub puts_one : (t : Text) (b : ℕ) {r : Text} → r ≡ put_of t b → r ≡ puts t (b ∷ [])
+pub puts_cons : (t : Text) (b : ℕ) (bs : List ℕ) → puts t (b ∷ bs) ≡ puts (put_of t b) bs
 unfolding puts
-puts_one t b e = e
+puts_cons t b bs = refl
 
--- a field, the space behind it, and the other fields
-pub field_more : (t : Text) (f g : List ℕ) (fs : List (List ℕ)) {u v r : Text} → u ≡ puts t f → v ≡ put_of u 0x20 → r ≡ puts v (line (g ∷ fs)) → r ≡ puts t (line (f ∷ g ∷ fs))
-unfolding line
-field_more t f g fs e q h = puts_both t f (0x20 ∷ line (g ∷ fs)) e (puts_cons _ 0x20 (line (g ∷ fs)) q h)
+pub puts_append : (t : Text) (xs ys : List ℕ) → puts t (xs ++ ys) ≡ puts (puts t xs) ys
+unfolding puts
+puts_append t xs ys = foldl-append put_of t xs ys
 
--- the last field and the line feed
-pub field_last : (t : Text) (f : List ℕ) {u r : Text} → u ≡ puts t f → r ≡ put_of u 0x0A → r ≡ puts t (line (f ∷ []))
-unfolding line
-field_last t f e q = puts_both t f (0x0A ∷ []) e (puts_one _ 0x0A q)
+pub ruleset putting = (puts_nil, puts_cons, puts_append)
 
 -- while there is room, a byte is put behind what stands there
 put_more : (xs : List ℕ) (b : ℕ) → length xs < 256 → put_of (text_of xs) b ≡ text_of (xs ++ (b ∷ []))
@@ -62,5 +58,5 @@ puts_text xs (y ∷ ys) h =
     ∙ ap text_of (append_snoc xs y ys)
 
 -- put on an empty text, a line for which there is room is the text
-pub finished : (bytes : List ℕ) {e r : Text} → length bytes ≤ 256 → e ≡ text_of [] → r ≡ puts e bytes → r ≡ text_of bytes
-finished bytes h e q = q ∙ ap (λ (t : Text). puts t bytes) e ∙ puts_text [] bytes (omega arith)
+pub finished : (bytes : List ℕ) {r : Text} → length bytes ≤ 256 → r ≡ puts (text_of []) bytes → r ≡ text_of bytes
+finished bytes h q = q ∙ puts_text [] bytes (omega arith)

@@ -10,10 +10,8 @@ use borrow.Author.Tests.{le-leb, lt-leb, eq-eqb, ne_eqb}
 use lib.Dec.{eqb}
 use lib.ListN.{length, length-append}
 use Rattle.search.specs.declared.Answer.{Answer}
-use Rattle.listing.specs.declared.Text.{Text}
 use Rattle.listing.specs.Lines.{refused_line, none_line, found_line, said_number, window_line, message_line, window_lines}
 use Rattle.listing.specs.Windows.{TwoSearches}
-use Rattle.listing.specs.Inner.{puts, fields}
 use Rattle.listing.proofs.Lengths.{found_longer}
 use Rattle.listing.proofs.Numbered.{said_none, said_disagrees}
 use Rattle.listing.proofs.Same.{refused_not_none}
@@ -43,26 +41,13 @@ module _ (k : ℕ) (a b : Answer) {x y : ℕ} (X : x ≡ said_number 14 a) (Y : 
 
 -- the line of a message of n bytes, if there is one
 module _ (n k : ℕ) (a : Answer) where
-  message_is : said_number n a ≡ 0 → message_line n k a ≡ found_line k a
+  pub message_is : said_number n a ≡ 0 → message_line n k a ≡ found_line k a
   unfolding message_line
   message_is e = rw (eq-eqb (said_number n a) 0 e)
 
-  message_not : said_number n a ≢ 0 → message_line n k a ≡ []
+  pub message_not : said_number n a ≢ 0 → message_line n k a ≡ []
   unfolding message_line
   message_not z = rw (ne_eqb (said_number n a) 0 z)
-
--- ---- put behind a text: nothing, or a line of the answer's fields
-
-module _ (n k : ℕ) (a : Answer) {x : ℕ} (X : x ≡ said_number n a) where
-  pub no_message : (t : Text) (size : ℕ) → x ≢ 0 → (t ≡ puts t (message_line n k a)) × (length (message_line n k a) ≤ size)
-  unfolding puts
-  no_message t size z = rw (message_not n k a (λ e. z (X ∙ e))) (refl, omega arith)
-
-  pub one_message : (t : Text) (size : ℕ) {r : Text} → x ≡ 0
-      → let l = found_line k (fields a.index a.fraction a.message a.location a.cn0 a.undecided) in
-      r ≡ puts t l → length l ≤ size → (r ≡ puts t (message_line n k a)) × (length (message_line n k a) ≤ size)
-  unfolding found_line
-  one_message t size z e h = rw (message_is n k a (sym X ∙ z)) (e, h)
 
 -- ---- the claim
 

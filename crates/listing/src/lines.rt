@@ -1,146 +1,112 @@
 // The lines of a listing. Each ends in one line feed.
-ghost use Rattle.std.specs.Prelude.{◌≡◌, ◌+◌, ◌*◌, ◌≤◌, length};
+ghost use Rattle.std.specs.Prelude.{◌≡◌, [], ◌∷◌, ◌++◌, ◌≤◌, length};
+ghost use Rattle.annex10.specs.Length.{message_bytes};
 ghost use Rattle.search.specs.Short.{of_short};
-ghost use Rattle.listing.specs.Lines.{text_of, head_line, refused_line, none_line, found_line, said_number, message_line, window_lines};
-ghost use Rattle.listing.specs.Inner.{puts, fields};
+ghost use Rattle.listing.specs.Fields.{decimal};
+ghost use Rattle.listing.specs.Lines.{line, text_of, head_line, refused_line, none_line, found_line, message_line, window_lines};
+ghost use Rattle.listing.specs.Inner.{puts, answer_of};
 
-use crate::Text;
-use crate::fields::{put_address, put_avr, put_float, put_repairs, put_slicer};
-use crate::put::{empty, put, put_all, put_decimal};
-use place::location::Location;
+use crate::{Entry, Text};
 use search::{Answer, ShortAnswer};
 
+// A word and a number.
+fn word_line(word: &[u8], number: u64) -> Text
+    requires { length word.now ≤ 7 }
+    ensures { result ≡ text_of (line (word.now ∷ decimal number ∷ [])) }
+{
+    let mut line = Text::EMPTY;
+    line.put_all(word);
+    line.put(b' ');
+    line.put_decimal(number);
+    line.put(b'\n');
+    line
+}
+
 // `windows` and how many.
+#[tactic(auto, unfolding(crate::specs::Lines::head_line))]
 pub fn head_line(windows: u64) -> Text
     ensures { result ≡ text_of (head_line windows) }
 {
-    let t = put(put_all(empty(), b"windows"), b' ');
-    put(put_decimal(t, windows), b'\n')
+    word_line(b"windows", windows)
 }
 
 // `refused` and the number.
+#[tactic(auto, unfolding(crate::specs::Lines::refused_line))]
 pub fn refused_line(number: u64) -> Text
     ensures { result ≡ text_of (refused_line number) }
 {
-    let t = put(put_all(empty(), b"refused"), b' ');
-    put(put_decimal(t, number), b'\n')
+    word_line(b"refused", number)
 }
 
 fn none_line(window: u64) -> Text
     ensures { result ≡ text_of (none_line window) }
 {
-    let t = put(put_decimal(empty(), window), b' ');
-    put(put_all(t, b"none"), b'\n')
+    let mut line = Text::EMPTY;
+    line.put_decimal(window);
+    line.put_all(b" none\n");
+    line
 }
 
-// One line more: that of a message of 7 or 14 bytes.
-fn put_message(
-    t: Text,
-    window: u64,
-    index: u64,
-    fraction: f32,
-    message: &[u8],
-    location: Location,
-    cn0: f32,
-    undecided: u32,
-) -> Text
-    requires { 4 ≤ length message.now }
-    ensures { let l = found_line window (fields index fraction message.now location cn0 undecided) in
-        (result ≡ puts t l) × (length l ≤ 2 * length message.now + 98) }
-{
-    let repairs = location.repairs;
-    let slicer = location.slicer;
-    let trial = location.trial as u64;
-    let t = put(put_decimal(t, window), b' ');
-    let t = put(put_decimal(t, index), b' ');
-    let t = put(put_float(t, fraction), b' ');
-    let t = put(put_avr(t, message), b' ');
-    let t = put(put_address(t, message), b' ');
-    let t = put(put_repairs(t, repairs), b' ');
-    let t = put(put_slicer(t, slicer), b' ');
-    let t = put(put_float(t, cn0), b' ');
-    let t = put(put_decimal(t, undecided as u64), b' ');
-    put(put_decimal(t, trial), b'\n')
-}
-
-// The number that a long answer is said by: a message at a location that is refused is none.
-fn said_long(long: Answer) -> u32
-    ensures { result ≡ said_number 14 long }
-{
-    let location = long.location;
-    if long.number != 0 {
-        return long.number;
+impl Text {
+    // One line more: that of a message.
+    fn put_found(&mut self, window: u64, entry: &Entry)
+        ensures { let l = found_line window (answer_of entry.now) in
+            (self.new ≡ puts self.old l) × (length l ≤ 126) }
+    {
+        self.put_decimal(window);
+        self.put(b' ');
+        self.put_decimal(entry.index);
+        self.put(b' ');
+        self.put_float(entry.fraction);
+        self.put(b' ');
+        self.put_avr(entry.message);
+        self.put(b' ');
+        self.put_address(entry.message);
+        self.put(b' ');
+        self.put_repairs(entry.location.repairs);
+        self.put(b' ');
+        self.put_slicer(entry.location.slicer);
+        self.put(b' ');
+        self.put_float(entry.cn0);
+        self.put(b' ');
+        self.put_decimal(u64::from(entry.undecided));
+        self.put(b' ');
+        self.put_decimal(u64::from(entry.location.trial));
+        self.put(b'\n');
     }
-    location.refusal()
-}
 
-// That of a short one.
-fn said_short(short: ShortAnswer) -> u32
-    ensures { result ≡ said_number 7 (of_short short) }
-{
-    let location = short.location;
-    if short.number != 0 {
-        return short.number;
+    // The line of a message, if there is one.
+    #[tactic(auto, using(crate::proofs::Puts::puts_nil, crate::proofs::Windows::message_not, crate::proofs::Windows::message_is))]
+    fn put_message(&mut self, window: u64, entry: &Entry)
+        ensures { let l = message_line (message_bytes entry.now.kind) window (answer_of entry.now) in
+            (self.new ≡ puts self.old l) × (length l ≤ 126) }
+    {
+        if entry.said() == 0 {
+            self.put_found(window, entry);
+        }
     }
-    location.refusal_short()
 }
 
-// The line of a long message, if there is one.
-fn put_long(t: Text, window: u64, long: Answer) -> Text
-    ensures { (result ≡ puts t (message_line 14 window long)) × (length (message_line 14 window long) ≤ 126) }
+// The lines of the messages that there are, the long one first.
+fn message_lines(window: u64, long: &Entry, short: &Entry) -> Text
+    ensures { result ≡ text_of (message_line (message_bytes long.now.kind) window (answer_of long.now) ++ message_line (message_bytes short.now.kind) window (answer_of short.now)) }
 {
-    if said_long(long) != 0 {
-        return t;
-    }
-    let message = long.message;
-    let location = long.location;
-    put_message(
-        t,
-        window,
-        long.index,
-        long.fraction,
-        &message,
-        location,
-        long.cn0,
-        long.undecided,
-    )
+    let mut lines = Text::EMPTY;
+    lines.put_message(window, long);
+    lines.put_message(window, short);
+    lines
 }
 
-// The line of a short one, if there is one.
-fn put_short(t: Text, window: u64, short: ShortAnswer) -> Text
-    ensures { (result ≡ puts t (message_line 7 window (of_short short))) × (length (message_line 7 window (of_short short)) ≤ 112) }
-{
-    if said_short(short) != 0 {
-        return t;
-    }
-    let message = short.message;
-    let location = short.location;
-    put_message(
-        t,
-        window,
-        short.index,
-        short.fraction,
-        &message,
-        location,
-        short.cn0,
-        short.undecided,
-    )
-}
-
-// What is said of a window: a refusal, `none`, or the messages, the long one first.
+// What is said of a window: a refusal, `none`, or its messages.
+#[tactic(auto, unfolding(crate::specs::Lines::window_lines))]
 pub fn window_lines(window: u64, long: Answer, short: ShortAnswer) -> Text
     ensures { result ≡ text_of (window_lines window long (of_short short)) }
 {
-    let long_number = said_long(long);
-    let short_number = said_short(short);
-    if long_number >= 2 {
-        return refused_line(long_number as u64);
+    let long = Entry::from(&long);
+    let short = Entry::from(&short);
+    match (long.said(), short.said()) {
+        (number @ 2.., _) | (_, number @ 2..) => refused_line(u64::from(number)),
+        (1, 1) => none_line(window),
+        _ => message_lines(window, &long, &short),
     }
-    if short_number >= 2 {
-        return refused_line(short_number as u64);
-    }
-    if long_number == 1 && short_number == 1 {
-        return none_line(window);
-    }
-    put_short(put_long(empty(), window, long), window, short)
 }

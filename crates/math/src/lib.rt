@@ -6,7 +6,7 @@ ghost use Rattle.std.specs.Float.Ieee.Scale.{finite};
 ghost use Rattle.math.specs.Complex.{plus_of, norm_of};
 ghost use Rattle.math.specs.Parabola.{parabola};
 
-#[derive(Clone, Copy)]
+#[derive(Clone, Copy, Debug, PartialEq)]
 pub struct Complex {
     pub re: f32,
     pub im: f32,
@@ -32,23 +32,22 @@ impl Complex {
 }
 
 // Where the parabola through three values is greatest, counted from the middle one.
+#[tactic(auto, unfolding(crate::specs::Parabola::parabola))]
 pub fn parabolic_interpolation(early: f32, prompt: f32, late: f32) -> f32
     ensures { result ≡ parabola early prompt late }
 {
     let d = (late + early) - 2.0 * prompt;
     if d == 0.0 {
-        return 0.0;
+        0.0
+    } else {
+        (-0.5 * (late - early)) / d
     }
-    (-0.5 * (late - early)) / d
 }
 
-// Neither NaN nor infinite. A NaN is not below infinity.
+// Neither NaN nor infinite.
+#[tactic(auto, using(crate::proofs::Finite::finite_is))]
 pub fn is_finite(x: f32) -> bool
     ensures { result ≡ finite x }
 {
-    let infinity = 1.0 / 0.0;
-    if x < infinity {
-        return x > -infinity;
-    }
-    false
+    x.is_finite()
 }

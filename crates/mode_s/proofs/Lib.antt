@@ -1,5 +1,4 @@
-pub mod Codes
-pub mod Head
+pub mod Bit
 pub mod Text
-pub mod Told
 pub mod Correcting
+pub mod Dividing

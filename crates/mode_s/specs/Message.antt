@@ -1,8 +1,8 @@
 -- A message of either kind.
 -- Assumes nothing.
 use Rattle.std.specs.Prelude.{List, ◌++◌, ℕ, replicate}
-use Rattle.mode_s.specs.declared.message.MessageKind.{MessageKind}
-use Rattle.mode_s.specs.declared.message.MessageKind.TheVariants.{Short, Long}
+use Rattle.annex10.specs.declared.MessageKind.{MessageKind}
+use Rattle.annex10.specs.declared.MessageKind.TheVariants.{Short, Long}
 use Rattle.mode_s.specs.declared.message.ModeSMessage.{ModeSMessage}
 
 -- 7 bytes, with zeros behind them

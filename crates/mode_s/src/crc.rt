@@ -8,11 +8,5 @@ use annex10::division::bring_byte;
 pub fn crc24(bytes: &[u8]) -> u32
     ensures { result ≡ remainder bytes.now }
 {
-    let mut crc: u32 = 0;
-    let mut i = 0;
-    while i < bytes.len() {
-        crc = bring_byte(crc, bytes[i]);
-        i += 1;
-    }
-    crc
+    bytes.iter().fold(0, |crc, &byte| bring_byte(crc, byte))
 }

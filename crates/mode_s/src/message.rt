@@ -2,14 +2,10 @@
 ghost use Rattle.std.specs.Prelude.{◌≡◌};
 ghost use Rattle.mode_s.specs.Message.{short_message, long_message, num_bits};
 
-#[derive(Clone, Copy)]
-pub enum MessageKind {
-    Short,
-    Long,
-}
+pub use annex10::MessageKind;
 
 // Of the bytes only the first `length` count.
-#[derive(Clone, Copy)]
+#[derive(Clone, Copy, Debug, PartialEq, Eq)]
 pub struct ModeSMessage {
     pub kind: MessageKind,
     pub length: usize,
@@ -24,12 +20,12 @@ impl ModeSMessage {
     pub fn short(b: [u8; 7]) -> ModeSMessage
         ensures { result ≡ short_message b }
     {
+        let mut bytes = [0; 14];
+        bytes[..7].copy_from_slice(&b);
         ModeSMessage {
             kind: MessageKind::Short,
             length: ModeSMessage::SHORT_BYTES,
-            bytes: [
-                b[0], b[1], b[2], b[3], b[4], b[5], b[6], 0, 0, 0, 0, 0, 0, 0,
-            ],
+            bytes,
         }
     }
 
@@ -46,10 +42,6 @@ impl ModeSMessage {
     pub fn num_bits(self) -> usize
         ensures { result ≡ num_bits self.kind }
     {
-        let kind = self.kind;
-        match kind {
-            MessageKind::Short => 56,
-            MessageKind::Long => 112,
-        }
+        8 * self.kind.bytes()
     }
 }

@@ -2,21 +2,25 @@
 ghost use Rattle.std.specs.Prelude.{◌≡◌};
 ghost use Rattle.annex10.specs.Flip.{flip};
 ghost use Rattle.annex10.specs.Repair.{repaired};
+ghost use Rattle.refusals.specs.Refusals.{told_number};
 ghost use Rattle.mode_s.specs.Corrected.{corrected};
 
 use annex10::{Repairs, is_message, lie_inside};
+use refusals::Refusal;
 
 // Turns the bit at position j over, if it lies in the message.
+#[tactic(auto, using(crate::proofs::Bit::shifted, crate::proofs::Bit::set_out), unfolding(annex10::specs::Flip::flip))]
 fn turn(message: &mut [u8], j: u8)
     ensures { message.new ≡ flip message.old j }
 {
-    let p = (j / 8) as usize;
+    let p = usize::from(j / 8);
     if p < message.len() {
-        message[p] = message[p] ^ (1u8 << (7 - j % 8));
+        message[p] ^= 1 << (7 - j % 8);
     }
 }
 
-fn turn_all(message: &mut [u8], repairs: Repairs)
+#[tactic(auto, unfolding(annex10::specs::Repair::repaired))]
+pub(crate) fn turn_all(message: &mut [u8], repairs: Repairs)
     ensures { message.new ≡ repaired message.old repairs }
 {
     match repairs {
@@ -31,16 +35,16 @@ fn turn_all(message: &mut [u8], repairs: Repairs)
 
 // Turns the named positions of a message of 7 or 14 bytes over. Refused: 2 another length, 8 a position outside the message: above 55,
 // above 111.
-pub fn correct_message_bit_errors(message: &mut [u8], repairs: Repairs) -> u32
-    ensures { (result, message.new) ≡ corrected repairs message.old }
+#[tactic(auto, unfolding(crate::specs::Corrected::corrected))]
+pub fn correct_message_bit_errors(message: &mut [u8], repairs: Repairs) -> Result<(), Refusal>
+    ensures { (told_number result, message.new) ≡ corrected repairs message.old }
 {
-    let n = message.len();
-    if !is_message(n) {
-        return 2;
+    if !is_message(message.len()) {
+        return Err(Refusal::Input);
     }
-    if !lie_inside(n, repairs) {
-        return 8;
+    if !lie_inside(message.len(), repairs) {
+        return Err(Refusal::Position);
     }
     turn_all(message, repairs);
-    0
+    Ok(())
 }

@@ -3,11 +3,23 @@
 use mathlib.Core.Path.{refl}
 use Rattle.outcomes.specs.Outcome.{Fixed, answer}
 use Rattle.outcomes.proofs.Law.{fixes, answer-set}
+use Rattle.annex10.specs.contracts.MessageKind.bytes as MessageKind-bytes
+use Rattle.annex10.specs.contracts.MessageKind.most as MessageKind-most
 use Rattle.annex10.specs.contracts.is_message as annex10-is-message
 use Rattle.annex10.specs.contracts.repairs_of as annex10-repairs-of
 use Rattle.annex10.specs.contracts.lie_inside as annex10-lie-inside
 use Rattle.annex10.specs.contracts.codes.code_of as codes-code-of
 use Rattle.annex10.specs.contracts.division.bring_byte as division-bring-byte
+
+pub MessageKind-bytes-fixed : Fixed MessageKind-bytes.ended (answer _) (λ M 𝓤 𝓛. MessageKind-bytes.clauses 𝓛) (λ M 𝓤 𝓛. MessageKind-bytes.spec 𝓛)
+MessageKind-bytes-fixed =
+    fixes MessageKind-bytes.ended _ (answer-set MessageKind-bytes.ended) refl (λ κs. refl)
+    (λ κs a r e. r) (λ κs a y. (y, (tt, tt))) (λ κs a r ws. refl)
+
+pub MessageKind-most-fixed : Fixed MessageKind-most.ended (answer _) (λ M 𝓤 𝓛. MessageKind-most.clauses 𝓛) (λ M 𝓤 𝓛. MessageKind-most.spec 𝓛)
+MessageKind-most-fixed =
+    fixes MessageKind-most.ended _ (answer-set MessageKind-most.ended) refl (λ κs. refl)
+    (λ κs a r e. r) (λ κs a y. (y, (tt, tt))) (λ κs a r ws. refl)
 
 pub annex10-is-message-fixed : Fixed annex10-is-message.ended (answer _) (λ M 𝓤 𝓛. annex10-is-message.clauses 𝓛) (λ M 𝓤 𝓛. annex10-is-message.spec 𝓛)
 annex10-is-message-fixed =

@@ -18,6 +18,7 @@ pub mod Powers
 pub mod Probes
 pub mod Program
 pub mod Receiver
+pub mod Refusals
 pub mod Repairs
 pub mod Rows
 pub mod Scan

@@ -3,14 +3,15 @@
 use mathlib.Core.Path.{refl, ap}
 use Rattle.outcomes.specs.Outcome.{Fixed, answer}
 use Rattle.outcomes.proofs.Law.{fixes, answer-set}
-use Rattle.mode_s.proofs.Told.{validity_untold, validity_back}
-use Rattle.mode_s.specs.Header.{validity_told}
+use Rattle.refusals.proofs.Told.{unnumbered, number_back}
+use Rattle.refusals.proofs.Told.{untold, told_back}
+use Rattle.refusals.specs.Refusals.{told_number}
+use Rattle.refusals.specs.Refusals.{told}
 use Rattle.mode_s.specs.contracts.avr.high_digit as avr-high-digit
 use Rattle.mode_s.specs.contracts.avr.low_digit as avr-low-digit
 use Rattle.mode_s.specs.contracts.avr.format_avr as avr-format-avr
 use Rattle.mode_s.specs.contracts.crc.crc24 as crc-crc24
 use Rattle.mode_s.specs.contracts.header.header_is_valid as header-header-is-valid
-use Rattle.mode_s.specs.contracts.header.header_is_valid_short as header-header-is-valid-short
 use Rattle.mode_s.specs.contracts.header.address_kind as header-address-kind
 use Rattle.mode_s.specs.contracts.message.ModeSMessage.short as message-ModeSMessage-short
 use Rattle.mode_s.specs.contracts.message.ModeSMessage.long as message-ModeSMessage-long
@@ -30,7 +31,7 @@ avr-low-digit-fixed =
 pub avr-format-avr-fixed : Fixed avr-format-avr.ended (answer _) (λ M 𝓤 𝓛. avr-format-avr.clauses 𝓛) (λ M 𝓤 𝓛. avr-format-avr.spec 𝓛)
 avr-format-avr-fixed =
     fixes avr-format-avr.ended _ (answer-set avr-format-avr.ended) refl (λ κs. refl)
-    (λ κs a r e. (r, e.1.0.now)) (λ κs a y. (y.0, (tt, (y.1, tt)))) (λ κs a r ws. refl)
+    (λ κs a r e. (told_number r, e.1.0.now)) (λ κs a y. (unnumbered y.0, (tt, (y.1, tt)))) (λ κs a r ws. ap (λ x. (x, ws)) (number_back r))
 
 pub crc-crc24-fixed : Fixed crc-crc24.ended (answer _) (λ M 𝓤 𝓛. crc-crc24.clauses 𝓛) (λ M 𝓤 𝓛. crc-crc24.spec 𝓛)
 crc-crc24-fixed =
@@ -40,12 +41,7 @@ crc-crc24-fixed =
 pub header-header-is-valid-fixed : Fixed header-header-is-valid.ended (answer _) (λ M 𝓤 𝓛. header-header-is-valid.clauses 𝓛) (λ M 𝓤 𝓛. header-header-is-valid.spec 𝓛)
 header-header-is-valid-fixed =
     fixes header-header-is-valid.ended _ (answer-set header-header-is-valid.ended) refl (λ κs. refl)
-    (λ κs a r e. validity_told r) (λ κs a y. (validity_untold y, (tt, (tt, tt)))) (λ κs a r ws. ap (λ x. (x, ws)) (validity_back r))
-
-pub header-header-is-valid-short-fixed : Fixed header-header-is-valid-short.ended (answer _) (λ M 𝓤 𝓛. header-header-is-valid-short.clauses 𝓛) (λ M 𝓤 𝓛. header-header-is-valid-short.spec 𝓛)
-header-header-is-valid-short-fixed =
-    fixes header-header-is-valid-short.ended _ (answer-set header-header-is-valid-short.ended) refl (λ κs. refl)
-    (λ κs a r e. validity_told r) (λ κs a y. (validity_untold y, (tt, (tt, tt)))) (λ κs a r ws. ap (λ x. (x, ws)) (validity_back r))
+    (λ κs a r e. told r) (λ κs a y. (untold y, (tt, (tt, (tt, tt))))) (λ κs a r ws. ap (λ x. (x, ws)) (told_back r))
 
 pub header-address-kind-fixed : Fixed header-address-kind.ended (answer _) (λ M 𝓤 𝓛. header-address-kind.clauses 𝓛) (λ M 𝓤 𝓛. header-address-kind.spec 𝓛)
 header-address-kind-fixed =
@@ -70,4 +66,4 @@ message-ModeSMessage-num-bits-fixed =
 pub repair-correct-message-bit-errors-fixed : Fixed repair-correct-message-bit-errors.ended (answer _) (λ M 𝓤 𝓛. repair-correct-message-bit-errors.clauses 𝓛) (λ M 𝓤 𝓛. repair-correct-message-bit-errors.spec 𝓛)
 repair-correct-message-bit-errors-fixed =
     fixes repair-correct-message-bit-errors.ended _ (answer-set repair-correct-message-bit-errors.ended) refl (λ κs. refl)
-    (λ κs a r e. (r, e.0.now)) (λ κs a y. (y.0, (y.1, (tt, tt)))) (λ κs a r ws. refl)
+    (λ κs a r e. (told_number r, e.0.now)) (λ κs a y. (unnumbered y.0, (y.1, (tt, tt)))) (λ κs a r ws. ap (λ x. (x, ws)) (number_back r))

@@ -7,10 +7,10 @@ ghost use Rattle.outcomes.specs.Sample.{exchanged};
 
 mod samples;
 
+use std::mem;
+
 pub fn exchange(held: &mut u8, x: u8) -> u8
     ensures { (result, held.new) ≡ exchanged held.old x }
 {
-    let old = *held;
-    *held = x;
-    old
+    mem::replace(held, x)
 }

@@ -2,22 +2,20 @@
 ghost use Rattle.std.specs.Prelude.{◌≡◌};
 ghost use Rattle.outcomes.specs.Sample.{exchanged};
 
+use std::mem;
+
 // what the lent memory holds afterwards
 pub fn memory_open(held: &mut u8, x: u8) -> u8
     ensures { result ≡ held.old }
 {
-    let old = *held;
-    *held = x;
-    old
+    mem::replace(held, x)
 }
 
 // what is answered
 pub fn answer_open(held: &mut u8, x: u8) -> u8
     ensures { held.new ≡ x }
 {
-    let old = *held;
-    *held = x;
-    old
+    mem::replace(held, x)
 }
 
 // what a call with another byte than 1 does
@@ -25,9 +23,7 @@ pub fn calls_left_out(held: &mut u8, x: u8) -> u8
     requires { x ≡ 1 }
     ensures { (result, held.new) ≡ exchanged held.old x }
 {
-    let old = *held;
-    *held = x;
-    old
+    mem::replace(held, x)
 }
 
 // nothing: two equations, each turned round
@@ -35,7 +31,5 @@ pub fn reworded(held: &mut u8, x: u8) -> u8
     ensures x_value { x ≡ held.new }
     ensures held_value { held.old ≡ result }
 {
-    let old = *held;
-    *held = x;
-    old
+    mem::replace(held, x)
 }

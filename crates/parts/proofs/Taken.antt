@@ -2,13 +2,14 @@
 -- Assumes nothing.
 use mathlib.Core.Path.{◌≡◌, refl, ap, ◌∙◌}
 use mathlib.Core.Bool.{Bool, true, false, cond}
-use mathlib.Core.List.{List, []}
+use mathlib.Core.List.{List}
 use Prim.Native.Nat.{ℕ, ◌+◌, ◌-◌, ◌*◌, ◌/◌, ◌%◌, ◌≤◌}
 use native.Mathlib.Omega.{arith}
 use lib.Dec.{eqb}
 use lib.Ieee.{Float}
 use lib.ListN.{length, take, drop, length-take, length-drop}
-use borrow.Author.Tests.{eqb-true, eqb-false, eq-eqb, ne_eqb}
+use borrow.Author.Tests.{eqb-true, eqb-false, eq-eqb}
+use Rattle.std.proofs.lemmas.Grind.{common_steps}
 use Rattle.place.specs.declared.Place.{Place}
 use Rattle.place.specs.declared.Slicer.{Slicer}
 use Rattle.place.specs.declared.Slicer.TheVariants.{Coherent, Noncoherent}
@@ -17,6 +18,14 @@ use Rattle.place.specs.Agrees.{location_number}
 use Rattle.parts.specs.Part.{symbols_at, samples_at, row_refusal, symbols_for, samples_for, streams_refusal, chosen, part_size, slicer_part}
 use Rattle.place.proofs.Within.{Within, within_gives}
 use Rattle.place.proofs.Agreeing.{located_gives}
+
+-- the first n elements of what is left behind k of them
+module _ {A : Type 0} (k n : ℕ) (xs : List A) where
+  pub front_of_rest : take n (take (length xs - k) (drop k xs)) ≡ take n (drop k xs)
+  front_of_rest = grind (arith, common_steps)
+
+  pub front_long : k + n ≤ length xs → n ≡ length (take n (take (length xs - k) (drop k xs)))
+  front_long h = grind (arith, common_steps)
 
 pub record RowTaken (size n : ℕ) (xs : List Float) (l : Location) : Type 0 where
   pub long : length xs ≡ size
@@ -40,17 +49,9 @@ module _ (n : ℕ) (row : List Float) (l : Location) where
   unfolding symbols_for
   symbols_done e = rw (eq-eqb _ 0 e)
 
-  pub symbols_none : (row_refusal 576 n row l ≡ 0 → ⊥) → symbols_for n row l ≡ []
-  unfolding symbols_for
-  symbols_none h = rw (ne_eqb _ 0 h)
-
   pub samples_done : row_refusal 2310 n row l ≡ 0 → samples_for n row l ≡ samples_at n row l.place
   unfolding samples_for
   samples_done e = rw (eq-eqb _ 0 e)
-
-  pub samples_none : (row_refusal 2310 n row l ≡ 0 → ⊥) → samples_for n row l ≡ []
-  unfolding samples_for
-  samples_none h = rw (ne_eqb _ 0 h)
 
 -- the part of a place from which a message ends within the window
 module _ (n : ℕ) (xs : List Float) (p : Place) (h : n ≤ 18) (w : Within n p) where
@@ -103,17 +104,20 @@ module _ (n : ℕ) (coherent noncoherent : List ℕ) (l : Location) where
   unfolding slicer_part
   part_done e = rw (eq-eqb _ 0 e)
 
-  pub part_none : (streams_refusal n coherent noncoherent l ≡ 0 → ⊥) → slicer_part n coherent noncoherent l ≡ []
-  unfolding slicer_part
-  part_none h = rw (ne_eqb _ 0 h)
-
   chosen_long : (s : Slicer) → length coherent ≡ 18 → length noncoherent ≡ 18 → length (chosen s coherent noncoherent) ≡ 18
   chosen_long Coherent e f = e
   chosen_long Noncoherent e f = f
 
-  pub part_long : n ≤ 18 → streams_refusal n coherent noncoherent l ≡ 0 → length (slicer_part n coherent noncoherent l) ≡ part_size n l.place.bit
-  part_long h e =
+  -- the part lies within the stream
+  pub part_room : n ≤ 18 → streams_refusal n coherent noncoherent l ≡ 0
+      → l.place.bit / 8 + part_size n l.place.bit ≤ length (chosen l.slicer coherent noncoherent)
+  part_room h e =
       let t = streams_taken n coherent noncoherent l e in
       let s = chosen_long l.slicer t.first t.second in
       let f = part_fits n l.place.bit h (offset_of_law n l.place t.place) in
+      omega arith
+
+  pub part_long : n ≤ 18 → streams_refusal n coherent noncoherent l ≡ 0 → length (slicer_part n coherent noncoherent l) ≡ part_size n l.place.bit
+  part_long h e =
+      let r = part_room h e in
       ap length (part_done e) ∙ simp (length-take, length-drop) (omega arith)

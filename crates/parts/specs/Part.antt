@@ -1,15 +1,13 @@
 -- Parts for a message of n bytes at a location. Where a part is refused it is empty, and the number says why.
 -- Assumes nothing.
 use Rattle.std.specs.Prelude.{cond, List, [], ℕ, ◌+◌, ◌-◌, ◌*◌, ◌/◌, ◌%◌, eqb, leb, Float, length, take, drop}
-use Rattle.lists.specs.Told.{Told, done, refused, tell}
+use Rattle.lists.specs.Told.{Told, tell}
 use Rattle.place.specs.declared.Place.{Place}
 use Rattle.place.specs.declared.Slicer.{Slicer}
 use Rattle.place.specs.declared.Slicer.TheVariants.{Coherent, Noncoherent}
 use Rattle.place.specs.declared.location.Location.{Location}
 use Rattle.place.specs.Step.{symbol_start, sample_start}
 use Rattle.place.specs.Agrees.{location_number}
-use Rattle.parts.specs.declared.PartSize.{PartSize}
-use Rattle.parts.specs.declared.PartSize.TheVariants.{Is, Refused}
 
 -- the two numbers of each of the 16 * n symbols from a place on, of a row of 288
 unfoldable pub symbols_at : ℕ → List Float → Place → List Float
@@ -48,10 +46,6 @@ chosen Noncoherent coherent noncoherent = noncoherent
 -- n bytes, or one more where the bit offset is no multiple of 8
 unfoldable pub part_size : ℕ → ℕ → ℕ
 part_size n bit = cond (eqb (bit % 8) 0) n (n + 1)
-
-abbrev pub size_told : PartSize → Told ℕ
-size_told (Is size) = done size
-size_told (Refused number) = refused number
 
 -- the same for a bit offset that is at most `last`
 abbrev pub size_to : ℕ → ℕ → ℕ → Told ℕ

@@ -1,223 +1,143 @@
-// Parts for a location, lent from what the caller lends. A part that is refused is empty; beside each part stands its refusal's number.
-// The functions named `short` are for messages of 7 bytes, the others for those of 14.
+// Parts for a location, lent from what the caller lends. A part that is refused is empty; beside each part stands what refuses it.
 #![tactic(auto)]
 
-ghost use Rattle.std.specs.Prelude.{◌≡◌, ◌≤◌};
-ghost use Rattle.parts.specs.Part.{row_refusal, number_of, symbols_for, samples_for, streams_number, streams_refusal, part_size, size_told, size_to, size_at, slicer_part};
+ghost use Rattle.std.specs.Prelude.{◌≡◌, ◌*◌, ◌-◌, cond, eqb, length};
+ghost use Rattle.annex10.specs.Length.{message_bytes};
+ghost use Rattle.refusals.specs.Refusals.{told, told_number};
+ghost use Rattle.parts.specs.Part.{row_refusal, symbols_for, samples_for, streams_refusal, chosen, part_size, size_at, slicer_part};
 
+use annex10::MessageKind;
 use place::location::Location;
 use place::{Place, Slicer};
+use refusals::Refusal;
 
-// How many bytes, or the refusal's number.
-#[derive(Clone, Copy)]
-pub enum PartSize {
-    Is(usize),
-    Refused(u32),
-}
-
-// So many numbers, and what is refused of the location.
-fn refusal_of(numbers: &[f32], size: usize, location: u32) -> u32
-    ensures { result ≡ number_of size location numbers.now }
+// So many items are lent.
+fn check_length<T>(items: &[T], size: usize) -> Result<(), Refusal>
+    ensures { told_number result ≡ cond (eqb (length items.now) size) 0 2 }
 {
-    if numbers.len() != size {
-        return 2;
+    if items.len() == size {
+        Ok(())
+    } else {
+        Err(Refusal::Input)
     }
-    location
 }
 
 // The row of symbols of one clock phase: 288 symbols, two numbers each.
-pub fn symbols_refusal(row: &[f32], location: Location) -> u32
-    ensures { result ≡ row_refusal 576 14 row.now location }
+#[tactic(auto, unfolding(crate::specs::Part::row_refusal))]
+pub fn check_symbols(kind: MessageKind, row: &[f32], location: Location) -> Result<(), Refusal>
+    ensures { told_number result ≡ row_refusal 576 (message_bytes kind) row.now location }
 {
-    refusal_of(row, 576, location.refusal())
+    check_length(row, 576)?;
+    location.check(kind)
 }
 
-pub fn symbols_refusal_short(row: &[f32], location: Location) -> u32
-    ensures { result ≡ row_refusal 576 7 row.now location }
+// The symbols of a message, from its symbol start: 224, or 112.
+#[tactic(auto, using(crate::proofs::Taken::row_taken, crate::proofs::Taken::front_of_rest, crate::proofs::Taken::front_long, annex10::proofs::Length::kind_small), unfolding(crate::specs::Part::symbols_for, crate::specs::Part::symbols_at))]
+pub fn symbols_for_location(kind: MessageKind, row: &[f32], location: Location) -> &[f32]
+    ensures { result.now ≡ symbols_for (message_bytes kind) row.now location }
 {
-    refusal_of(row, 576, location.refusal_short())
-}
-
-// The symbols of a message of so many bytes, from its symbol start.
-fn symbols_of(row: &[f32], location: Location, bytes: usize, number: u32) -> &[f32]
-    requires { (bytes ≤ 18) × (number ≡ row_refusal 576 bytes row.now location) }
-    ensures { result.now ≡ symbols_for bytes row.now location }
-{
-    let place = location.place;
-    let bit = place.bit;
-    let symbol = place.symbol;
-    if number != 0 {
-        return &row[..0];
+    if check_symbols(kind, row, location).is_err() {
+        return &[];
     }
-    let from = 2 * (2 * bit + symbol);
-    &row[from..from + 32 * bytes]
-}
-
-// The 224 symbols of a message.
-pub fn symbols_for_location(row: &[f32], location: Location) -> &[f32]
-    ensures { result.now ≡ symbols_for 14 row.now location }
-{
-    symbols_of(row, location, 14, symbols_refusal(row, location))
-}
-
-// The 112 symbols of a short message.
-pub fn symbols_for_location_short(row: &[f32], location: Location) -> &[f32]
-    ensures { result.now ≡ symbols_for 7 row.now location }
-{
-    symbols_of(row, location, 7, symbols_refusal_short(row, location))
+    let place = location.place;
+    let from = 2 * (2 * place.bit + place.symbol);
+    &row[from..][..32 * kind.bytes()]
 }
 
 // The window: 1,155 samples, two numbers each.
-pub fn samples_refusal(window: &[f32], location: Location) -> u32
-    ensures { result ≡ row_refusal 2310 14 window.now location }
+#[tactic(auto, unfolding(crate::specs::Part::row_refusal))]
+pub fn check_samples(kind: MessageKind, window: &[f32], location: Location) -> Result<(), Refusal>
+    ensures { told_number result ≡ row_refusal 2310 (message_bytes kind) window.now location }
 {
-    refusal_of(window, 2310, location.refusal())
+    check_length(window, 2310)?;
+    location.check(kind)
 }
 
-pub fn samples_refusal_short(window: &[f32], location: Location) -> u32
-    ensures { result ≡ row_refusal 2310 7 window.now location }
+// The samples of a message, from its sample start: 896, or 448.
+#[tactic(auto, using(crate::proofs::Taken::row_taken, crate::proofs::Taken::front_of_rest, crate::proofs::Taken::front_long, annex10::proofs::Length::kind_small), unfolding(crate::specs::Part::samples_for, crate::specs::Part::samples_at))]
+pub fn samples_for_location(kind: MessageKind, window: &[f32], location: Location) -> &[f32]
+    ensures { result.now ≡ samples_for (message_bytes kind) window.now location }
 {
-    refusal_of(window, 2310, location.refusal_short())
-}
-
-// The samples of a message of so many bytes, from its sample start.
-fn samples_of(window: &[f32], location: Location, bytes: usize, number: u32) -> &[f32]
-    requires { (bytes ≤ 18) × (number ≡ row_refusal 2310 bytes window.now location) }
-    ensures { result.now ≡ samples_for bytes window.now location }
-{
+    if check_samples(kind, window, location).is_err() {
+        return &[];
+    }
     let place = location.place;
-    let bit = place.bit;
-    let phase = place.phase;
-    let symbol = place.symbol;
-    if number != 0 {
-        return &window[..0];
-    }
-    let from = 2 * (4 * (2 * bit + symbol) + phase);
-    &window[from..from + 128 * bytes]
+    let from = 2 * (4 * (2 * place.bit + place.symbol) + place.phase);
+    &window[from..][..128 * kind.bytes()]
 }
 
-// The 896 samples of a message.
-pub fn samples_for_location(window: &[f32], location: Location) -> &[f32]
-    ensures { result.now ≡ samples_for 14 window.now location }
-{
-    samples_of(window, location, 14, samples_refusal(window, location))
-}
-
-// The 448 samples of a short message.
-pub fn samples_for_location_short(window: &[f32], location: Location) -> &[f32]
-    ensures { result.now ≡ samples_for 7 window.now location }
-{
-    samples_of(window, location, 7, samples_refusal_short(window, location))
-}
-
-// The two streams of 18 bytes, and what is refused of the location.
-fn refusal_to(coherent: &[u8], noncoherent: &[u8], location: u32) -> u32
-    ensures { result ≡ streams_number location coherent.now noncoherent.now }
-{
-    if coherent.len() != 18 {
-        return 2;
-    }
-    if noncoherent.len() != 18 {
-        return 2;
-    }
-    location
-}
-
-pub fn slicer_refusal(coherent: &[u8], noncoherent: &[u8], location: Location) -> u32
-    ensures { result ≡ streams_refusal 14 coherent.now noncoherent.now location }
-{
-    refusal_to(coherent, noncoherent, location.refusal())
-}
-
-pub fn slicer_refusal_short(coherent: &[u8], noncoherent: &[u8], location: Location) -> u32
-    ensures { result ≡ streams_refusal 7 coherent.now noncoherent.now location }
-{
-    refusal_to(coherent, noncoherent, location.refusal_short())
-}
-
-// How many bytes hold the bits of a message of so many bytes from a bit offset on.
-fn bytes_from(bytes: usize, bit: usize) -> usize
-    requires { bytes ≤ 18 }
-    ensures { result ≡ part_size bytes bit }
-{
-    if bit % 8 == 0 { bytes } else { bytes + 1 }
-}
-
-fn size_to(last: usize, bytes: usize, bit: usize) -> PartSize
-    requires { bytes ≤ 18 }
-    ensures { size_told result ≡ size_to last bytes bit }
-{
-    if bit > last {
-        return PartSize::Refused(7);
-    }
-    PartSize::Is(bytes_from(bytes, bit))
-}
-
-// The same for others. Refused: 7 a bit offset from which 112 bits would end behind the stream.
-pub fn part_size(bit: usize) -> PartSize
-    ensures { size_told result ≡ size_at 14 bit }
-{
-    size_to(Place::BIT_MAX, 14, bit)
-}
-
-// Of 56 bits.
-pub fn part_size_short(bit: usize) -> PartSize
-    ensures { size_told result ≡ size_at 7 bit }
-{
-    size_to(Place::SHORT_BIT_MAX, 7, bit)
-}
-
-// The bytes of the named slicer's stream that hold the bits of a message of so many bytes.
-fn part_of<'a>(
-    coherent: &'a [u8],
-    noncoherent: &'a [u8],
+// The streams of both slicers: 18 bytes each.
+#[tactic(auto, unfolding(crate::specs::Part::streams_refusal))]
+pub fn check_streams(
+    kind: MessageKind,
+    coherent: &[u8],
+    noncoherent: &[u8],
     location: Location,
-    bytes: usize,
-    number: u32,
-) -> &'a [u8]
-    requires { (bytes ≤ 18) × (number ≡ streams_refusal bytes coherent.now noncoherent.now location) }
-    ensures { result.now ≡ slicer_part bytes coherent.now noncoherent.now location }
+) -> Result<(), Refusal>
+    ensures { told_number result ≡ streams_refusal (message_bytes kind) coherent.now noncoherent.now location }
 {
-    let place = location.place;
-    let slicer = location.slicer;
-    let bit = place.bit;
-    if number != 0 {
-        return &coherent[..0];
+    check_length(coherent, 18)?;
+    check_length(noncoherent, 18)?;
+    location.check(kind)
+}
+
+// How many bytes hold the bits of a message from a bit offset on.
+#[tactic(auto, unfolding(crate::specs::Part::part_size))]
+fn bytes_from(kind: MessageKind, bit: usize) -> usize
+    ensures { result ≡ part_size (message_bytes kind) bit }
+{
+    if bit % 8 == 0 {
+        kind.bytes()
+    } else {
+        kind.bytes() + 1
     }
-    let from = bit / 8;
-    let to = from + bytes_from(bytes, bit);
+}
+
+// The last bit offset from which a message ends within a stream.
+fn bit_max(kind: MessageKind) -> usize
+    ensures { result ≡ 144 - 8 * message_bytes kind }
+{
+    match kind {
+        MessageKind::Short => Place::SHORT_BIT_MAX,
+        MessageKind::Long => Place::BIT_MAX,
+    }
+}
+
+// The same for others. Refused: 7 a bit offset from which the message would end behind the stream.
+#[tactic(auto, unfolding(crate::specs::Part::size_at))]
+pub fn part_size(kind: MessageKind, bit: usize) -> Result<usize, Refusal>
+    ensures { told result ≡ size_at (message_bytes kind) bit }
+{
+    if bit > bit_max(kind) {
+        return Err(Refusal::Place);
+    }
+    Ok(bytes_from(kind, bit))
+}
+
+// The stream that the slicer names.
+fn chosen<'a>(slicer: Slicer, coherent: &'a [u8], noncoherent: &'a [u8]) -> &'a [u8]
+    ensures { result.now ≡ chosen slicer coherent.now noncoherent.now }
+{
     match slicer {
-        Slicer::Coherent => &coherent[from..to],
-        Slicer::Noncoherent => &noncoherent[from..to],
+        Slicer::Coherent => coherent,
+        Slicer::Noncoherent => noncoherent,
     }
 }
 
-// Of 112 bits.
-pub fn slicer_part<'a>(coherent: &'a [u8], noncoherent: &'a [u8], location: Location) -> &'a [u8]
-    ensures { result.now ≡ slicer_part 14 coherent.now noncoherent.now location }
-{
-    part_of(
-        coherent,
-        noncoherent,
-        location,
-        14,
-        slicer_refusal(coherent, noncoherent, location),
-    )
-}
-
-// Of 56 bits.
-pub fn slicer_part_short<'a>(
+// The bytes of the named slicer's stream that hold the bits of a message.
+#[tactic(auto, using(crate::proofs::Taken::part_room, crate::proofs::Taken::front_long, annex10::proofs::Length::kind_small), unfolding(crate::specs::Part::slicer_part))]
+pub fn slicer_part<'a>(
+    kind: MessageKind,
     coherent: &'a [u8],
     noncoherent: &'a [u8],
     location: Location,
 ) -> &'a [u8]
-    ensures { result.now ≡ slicer_part 7 coherent.now noncoherent.now location }
+    ensures { result.now ≡ slicer_part (message_bytes kind) coherent.now noncoherent.now location }
 {
-    part_of(
-        coherent,
-        noncoherent,
-        location,
-        7,
-        slicer_refusal_short(coherent, noncoherent, location),
-    )
+    if check_streams(kind, coherent, noncoherent, location).is_err() {
+        return &[];
+    }
+    let bit = location.place.bit;
+    let stream = chosen(location.slicer, coherent, noncoherent);
+    &stream[bit / 8..][..bytes_from(kind, bit)]
 }

@@ -1,6 +1,7 @@
 -- The places that are searched, as a list and by their number.
 --     counted        the list is number 0, number 1, ..
 --     listed_member, member_listed    a place is in it exactly when its numbers are in range
+--     last_bit_is    the last bit offset of a kind, from its bytes
 -- Assumes nothing.
 use mathlib.Core.Path.{◌≡◌, refl, sym, ap, ap₂, ◌∙◌, subst}
 use mathlib.Core.Bool.{true}
@@ -9,8 +10,11 @@ use Prim.Native.Nat.{ℕ, zero, suc, ◌+◌, ◌-◌, ◌*◌, ◌/◌, ◌%◌
 use native.Mathlib.Omega.{arith}
 use Rattle.lists.specs.From.{from, tabulate}
 use Rattle.lists.proofs.Members.{from_append, member_of, number_of}
+use Rattle.annex10.specs.declared.MessageKind.{MessageKind}
+use Rattle.annex10.specs.declared.MessageKind.TheVariants.{Short, Long}
+use Rattle.annex10.specs.Length.{message_bytes}
 use Rattle.place.specs.declared.Place.{Place}
-use Rattle.place.specs.All.{listed, up, all_places, place_at}
+use Rattle.place.specs.All.{last_bit, listed, up, all_places, place_at}
 use Rattle.place.proofs.Within.{listed_gives, listed_is}
 
 abbrev at : ℕ → ℕ → ℕ → Place
@@ -83,3 +87,8 @@ pub member_listed : (m : ℕ) (p : Place) → Memᴰ p (all_places m) → listed
 member_listed m p h =
     let c = number_of place_at (8 * m) p (subst (λ (ps : List Place). Memᴰ p ps) (sym (counted m)) h) in
     ap (listed m) (sym c.is) ∙ listed_at m c.number c.below
+
+-- a bit less than the last one from which a message ends within the window
+pub last_bit_is : (kind : MessageKind) → last_bit kind ≡ 143 - 8 * message_bytes kind
+last_bit_is Short = refl
+last_bit_is Long = refl

@@ -2,15 +2,13 @@
 -- Trials 1 and 2 repair nothing, 3 and 4 one position, 5 and 6 two; the first of each pair reads the coherent slicer's bits.
 -- Assumes nothing.
 use Rattle.std.specs.Prelude.{◌≡◌, Bool, true, ◌&&◌, cond, ℕ, ◌+◌, ◌*◌, eqb, leb}
-use Rattle.lists.specs.Told.{Told, done, refused, tell, and_then}
+use Rattle.lists.specs.Told.{Told, tell, and_then}
 use Rattle.annex10.specs.Repair.{count, inside}
 use Rattle.annex10.specs.declared.Repairs.{Repairs}
 use Rattle.place.specs.declared.Place.{Place}
 use Rattle.place.specs.declared.Slicer.{Slicer}
 use Rattle.place.specs.declared.Slicer.TheVariants.{Coherent, Noncoherent}
 use Rattle.place.specs.declared.location.Location.{Location}
-use Rattle.place.specs.declared.location.Neighbour.{Neighbour}
-use Rattle.place.specs.declared.location.Neighbour.TheVariants.{At, Refused}
 use Rattle.place.specs.Step.{within, earlier_of, later_of}
 
 -- 0 for the coherent slicer, 1 for the other
@@ -49,11 +47,6 @@ location_number n l = cond (within n l.place) (record_number n l) 7
 -- the same reading at another place
 abbrev pub moved_to : Location → Place → Location
 moved_to l p = record { place = p; trial = l.trial; slicer = l.slicer; repairs = l.repairs }
-
--- a neighbour in numbers and values
-abbrev pub neighbour_told : Neighbour → Told Location
-neighbour_told (At l) = done l
-neighbour_told (Refused n) = refused n
 
 -- the same reading where a step leads to
 abbrev pub carried : ℕ → Location → Told Place → Told Location

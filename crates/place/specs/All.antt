@@ -4,7 +4,14 @@ use Rattle.std.specs.Prelude.{Bool, ◌&&◌, cond, ℕ, ◌+◌, ◌*◌, ◌/�
 use mathlib.Core.List.{List, [], ◌∷◌, flat_map}
 use Rattle.lists.specs.From.{from}
 use Rattle.lists.specs.Told.{Told, done, refused}
+use Rattle.annex10.specs.declared.MessageKind.{MessageKind}
+use Rattle.annex10.specs.declared.MessageKind.TheVariants.{Short, Long}
 use Rattle.place.specs.declared.Place.{Place}
+
+-- the last bit offset that is searched for messages of a kind
+abbrev pub last_bit : MessageKind → ℕ
+last_bit Short = 87
+last_bit Long = 31
 
 -- bit offset 1 to m, clock phase 0 to 3, symbol offset 0 or 1
 unfoldable pub listed : ℕ → Place → Bool

@@ -4,8 +4,6 @@
 use Rattle.std.specs.Prelude.{Bool, ◌&&◌, cond, ℕ, ◌+◌, ◌-◌, ◌*◌, ◌/◌, ◌%◌, leb, ltb}
 use Rattle.lists.specs.Told.{Told, done, refused}
 use Rattle.place.specs.declared.Place.{Place}
-use Rattle.place.specs.declared.Stepped.{Stepped}
-use Rattle.place.specs.declared.Stepped.TheVariants.{To, Refused}
 
 -- the symbol that it starts with
 abbrev pub symbol_start : Place → ℕ
@@ -30,11 +28,6 @@ within n p = starts_by (last_symbol n) p
 -- the place that starts with sample s: 8 samples are a bit, 4 a symbol
 unfoldable pub starting_at : ℕ → Place
 starting_at s = record { bit = s / 8; phase = s % 4; symbol = s / 4 % 2 }
-
--- a step in numbers and values
-abbrev pub stepped_told : Stepped → Told Place
-stepped_told (To p) = done p
-stepped_told (Refused n) = refused n
 
 -- one sample earlier; there is none before sample 0
 abbrev pub earlier_by : ℕ → Place → Told Place

@@ -3,30 +3,28 @@
 
 pub mod location;
 
-ghost use Rattle.std.specs.Prelude.{◌≡◌};
-ghost use Rattle.place.specs.Step.{starts_by, within, stepped_told, earlier_by, later_by, earlier_of, later_of};
-ghost use Rattle.place.specs.All.{listed, place_below, listed_at};
+ghost use Rattle.std.specs.Prelude.{◌≡◌, ◌*◌};
+ghost use Rattle.annex10.specs.Length.{message_bytes};
+ghost use Rattle.refusals.specs.Refusals.{told};
+ghost use Rattle.place.specs.Step.{last_symbol, within, earlier_of, later_of};
+ghost use Rattle.place.specs.All.{last_bit, listed, listed_at};
+
+use annex10::MessageKind;
+use refusals::Refusal;
 
 // Who made bits of symbols: by real part, or by norm.
-#[derive(Clone, Copy)]
+#[derive(Clone, Copy, Debug, PartialEq, Eq)]
 pub enum Slicer {
     Coherent,
     Noncoherent,
 }
 
 // Bit offset, clock phase, symbol offset.
-#[derive(Clone, Copy)]
+#[derive(Clone, Copy, Debug, PartialEq, Eq)]
 pub struct Place {
     pub bit: usize,
     pub phase: usize,
     pub symbol: usize,
-}
-
-// A place, or the refusal's number.
-#[derive(Clone, Copy)]
-pub enum Stepped {
-    To(Place),
-    Refused(u32),
 }
 
 impl Place {
@@ -77,186 +75,129 @@ impl Place {
         symbol: Place::LAST.symbol,
     };
 
-    // Number k of so many places, counted from 0.
-    fn at_below(count: usize, k: usize) -> Stepped
-        ensures { stepped_told result ≡ place_below count k }
+    // The last bit offset that is searched.
+    fn last_bit(kind: MessageKind) -> usize
+        ensures { result ≡ last_bit kind }
     {
-        if k >= count {
-            return Stepped::Refused(7);
+        match kind {
+            MessageKind::Short => Place::SHORT_LAST.bit,
+            MessageKind::Long => Place::LAST.bit,
         }
-        Stepped::To(Place {
+    }
+
+    // How many places are searched.
+    fn count(kind: MessageKind) -> usize
+        ensures { result ≡ 8 * last_bit kind }
+    {
+        match kind {
+            MessageKind::Short => Place::SHORT_COUNT,
+            MessageKind::Long => Place::COUNT,
+        }
+    }
+
+    // The last symbol that a message starts with.
+    fn last_start(kind: MessageKind) -> usize
+        ensures { result ≡ last_symbol (message_bytes kind) }
+    {
+        match kind {
+            MessageKind::Short => Place::SHORT_START_MAX,
+            MessageKind::Long => Place::START_MAX,
+        }
+    }
+
+    // Number k of the places that are searched, counted from 0. Refused: 7 from 248 on, for short messages from 696 on.
+    #[tactic(auto, unfolding(crate::specs::All::listed_at, crate::specs::All::place_at))]
+    pub fn at(kind: MessageKind, k: usize) -> Result<Place, Refusal>
+        ensures { told result ≡ listed_at (last_bit kind) k }
+    {
+        if k >= Place::count(kind) {
+            return Err(Refusal::Place);
+        }
+        Ok(Place {
             bit: Place::FIRST.bit + k / Place::PER_BIT,
             phase: k / Place::PER_PHASE % Place::PHASES,
             symbol: k % Place::PER_PHASE,
         })
     }
 
-    // Number k of the places that are searched. Refused: 7 from COUNT on.
-    pub fn at(k: usize) -> Stepped
-        ensures { stepped_told result ≡ listed_at 31 k }
+    // One of those that are searched.
+    #[tactic(auto, unfolding(crate::specs::All::listed))]
+    pub fn is_listed(self, kind: MessageKind) -> bool
+        ensures { result ≡ listed (last_bit kind) self }
     {
-        Place::at_below(Place::COUNT, k)
+        Place::FIRST.bit <= self.bit
+            && self.bit <= Place::last_bit(kind)
+            && self.phase <= Place::LAST.phase
+            && self.symbol <= Place::LAST.symbol
     }
 
-    // Number k of those that are searched for short messages. Refused: 7 from SHORT_COUNT on.
-    pub fn at_short(k: usize) -> Stepped
-        ensures { stepped_told result ≡ listed_at 87 k }
+    // A message ends within the window. The bit offset is tested before the start, so that the start cannot wrap.
+    #[tactic(auto, unfolding(crate::specs::Step::within))]
+    pub fn is_within(self, kind: MessageKind) -> bool
+        ensures { result ≡ within (message_bytes kind) self }
     {
-        Place::at_below(Place::SHORT_COUNT, k)
+        let last = Place::last_start(kind);
+        self.phase <= Place::PHASE_MAX
+            && self.symbol <= Place::SYMBOL_MAX
+            && self.bit <= last / 2
+            && 2 * self.bit + self.symbol <= last
     }
 
-    // One of those that are searched, up to the last bit offset.
-    fn listed_to(self, last: usize) -> bool
-        ensures { result ≡ listed last self }
+    // One clock phase back.
+    #[tactic(auto, unfolding(crate::specs::Step::earlier_of, crate::specs::Step::within))]
+    pub fn earlier(self, kind: MessageKind) -> Result<Place, Refusal>
+        ensures { told result ≡ earlier_of (message_bytes kind) self }
     {
-        let bit = self.bit;
-        if bit < Place::FIRST.bit {
-            return false;
-        }
-        if bit > last {
-            return false;
-        }
-        if self.phase > Place::LAST.phase {
-            return false;
-        }
-        self.symbol <= Place::LAST.symbol
-    }
-
-    // One of the 248 that are searched.
-    pub fn is_listed(self) -> bool
-        ensures { result ≡ listed 31 self }
-    {
-        self.listed_to(Place::LAST.bit)
-    }
-
-    // One of the 696 that are searched for short messages.
-    pub fn is_listed_short(self) -> bool
-        ensures { result ≡ listed 87 self }
-    {
-        self.listed_to(Place::SHORT_LAST.bit)
-    }
-
-    // The bit offset is tested before the start, so that the start cannot wrap.
-    fn starts_by(self, last: usize) -> bool
-        ensures { result ≡ starts_by last self }
-    {
-        let bit = self.bit;
-        let symbol = self.symbol;
-        if self.phase > Place::PHASE_MAX {
-            return false;
-        }
-        if symbol > Place::SYMBOL_MAX {
-            return false;
-        }
-        if bit > last / 2 {
-            return false;
-        }
-        2 * bit + symbol <= last
-    }
-
-    // A message of 14 bytes ends within the window.
-    pub fn is_within(self) -> bool
-        ensures { result ≡ within 14 self }
-    {
-        self.starts_by(Place::START_MAX)
-    }
-
-    // A message of 7 bytes ends within the window.
-    pub fn is_within_short(self) -> bool
-        ensures { result ≡ within 7 self }
-    {
-        self.starts_by(Place::SHORT_START_MAX)
-    }
-
-    // One clock phase back, of a place that starts with the symbol `last` or before.
-    fn earlier_by(self, last: usize) -> Stepped
-        ensures { stepped_told result ≡ earlier_by last self }
-    {
-        let bit = self.bit;
-        let phase = self.phase;
-        let symbol = self.symbol;
-        if !self.starts_by(last) {
-            return Stepped::Refused(7);
-        }
-        if phase > 0 {
-            return Stepped::To(Place {
-                bit,
-                phase: phase - 1,
-                symbol,
-            });
-        }
-        if symbol > 0 {
-            return Stepped::To(Place {
-                bit,
+        if !self.is_within(kind) {
+            Err(Refusal::Place)
+        } else if self.phase > 0 {
+            Ok(Place {
+                phase: self.phase - 1,
+                ..self
+            })
+        } else if self.symbol > 0 {
+            Ok(Place {
                 phase: Place::PHASE_MAX,
-                symbol: symbol - 1,
-            });
-        }
-        if bit > 0 {
-            return Stepped::To(Place {
-                bit: bit - 1,
+                symbol: self.symbol - 1,
+                ..self
+            })
+        } else if self.bit > 0 {
+            Ok(Place {
+                bit: self.bit - 1,
                 phase: Place::PHASE_MAX,
                 symbol: Place::SYMBOL_MAX,
-            });
+            })
+        } else {
+            Err(Refusal::Place)
         }
-        Stepped::Refused(7)
-    }
-
-    pub fn earlier(self) -> Stepped
-        ensures { stepped_told result ≡ earlier_of 14 self }
-    {
-        self.earlier_by(Place::START_MAX)
-    }
-
-    pub fn earlier_short(self) -> Stepped
-        ensures { stepped_told result ≡ earlier_of 7 self }
-    {
-        self.earlier_by(Place::SHORT_START_MAX)
     }
 
     // One clock phase on.
-    fn later_by(self, last: usize) -> Stepped
-        ensures { stepped_told result ≡ later_by last self }
+    #[tactic(auto, unfolding(crate::specs::Step::later_of, crate::specs::Step::within))]
+    pub fn later(self, kind: MessageKind) -> Result<Place, Refusal>
+        ensures { told result ≡ later_of (message_bytes kind) self }
     {
-        let bit = self.bit;
-        let phase = self.phase;
-        let symbol = self.symbol;
-        if !self.starts_by(last) {
-            return Stepped::Refused(7);
-        }
-        if phase < Place::PHASE_MAX {
-            return Stepped::To(Place {
-                bit,
-                phase: phase + 1,
-                symbol,
-            });
-        }
-        if 2 * bit + symbol == last {
-            return Stepped::Refused(7);
-        }
-        if symbol < Place::SYMBOL_MAX {
-            return Stepped::To(Place {
-                bit,
+        if !self.is_within(kind) {
+            Err(Refusal::Place)
+        } else if self.phase < Place::PHASE_MAX {
+            Ok(Place {
+                phase: self.phase + 1,
+                ..self
+            })
+        } else if 2 * self.bit + self.symbol == Place::last_start(kind) {
+            Err(Refusal::Place)
+        } else if self.symbol < Place::SYMBOL_MAX {
+            Ok(Place {
                 phase: 0,
-                symbol: symbol + 1,
-            });
+                symbol: self.symbol + 1,
+                ..self
+            })
+        } else {
+            Ok(Place {
+                bit: self.bit + 1,
+                phase: 0,
+                symbol: 0,
+            })
         }
-        Stepped::To(Place {
-            bit: bit + 1,
-            phase: 0,
-            symbol: 0,
-        })
-    }
-
-    pub fn later(self) -> Stepped
-        ensures { stepped_told result ≡ later_of 14 self }
-    {
-        self.later_by(Place::START_MAX)
-    }
-
-    pub fn later_short(self) -> Stepped
-        ensures { stepped_told result ≡ later_of 7 self }
-    {
-        self.later_by(Place::SHORT_START_MAX)
     }
 }

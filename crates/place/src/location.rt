@@ -1,13 +1,15 @@
 // Where a message lies and how it was read there. Wherever a record is handed in that does not agree with the six trials, it is refused.
 ghost use Rattle.std.specs.Prelude.{◌≡◌};
-ghost use Rattle.place.specs.Step.{stepped_told};
-ghost use Rattle.place.specs.Agrees.{trial_of, agrees, agrees_by, record_by, location_number, neighbour_told, carried, earlier_location, later_location};
+ghost use Rattle.annex10.specs.Length.{message_bytes};
+ghost use Rattle.refusals.specs.Refusals.{told, told_number};
+ghost use Rattle.place.specs.Agrees.{trial_of, agrees, last_trial, agrees_by, record_number, location_number, carried, earlier_location, later_location};
 
-use crate::{Place, Slicer, Stepped};
-use annex10::{Repairs, lie_inside, repairs_of};
+use crate::{Place, Slicer};
+use annex10::{MessageKind, Repairs, lie_inside, repairs_of};
+use refusals::Refusal;
 
 // The place, the trial that passed there, 1 to 6, the slicer that it names and the positions that it repairs.
-#[derive(Clone, Copy)]
+#[derive(Clone, Copy, Debug, PartialEq, Eq)]
 pub struct Location {
     pub place: Place,
     pub trial: u8,
@@ -15,14 +17,8 @@ pub struct Location {
     pub repairs: Repairs,
 }
 
-// A location, or the refusal's number.
-#[derive(Clone, Copy)]
-pub enum Neighbour {
-    At(Location),
-    Refused(u32),
-}
-
 // The trial that looks for so many positions in a slicer's bits.
+#[tactic(auto, using(crate::proofs::Agreeing::count_few))]
 fn trial_of(slicer: Slicer, repairs: Repairs) -> u32
     ensures { result ≡ trial_of slicer repairs }
 {
@@ -40,118 +36,81 @@ impl Location {
     pub const SHORT_LAST_TRIAL: u8 = 4;
 
     // Trial, slicer and number of positions agree: two equal positions are two.
+    #[tactic(auto, unfolding(crate::specs::Agrees::agrees))]
     pub fn agrees(self) -> bool
         ensures { result ≡ agrees self }
     {
-        let slicer = self.slicer;
-        let repairs = self.repairs;
-        self.trial as u32 == trial_of(slicer, repairs)
+        u32::from(self.trial) == trial_of(self.slicer, self.repairs)
+    }
+
+    // The last trial that is made.
+    fn last_trial(kind: MessageKind) -> u8
+        ensures { result ≡ last_trial (message_bytes kind) }
+    {
+        match kind {
+            MessageKind::Short => Location::SHORT_LAST_TRIAL,
+            MessageKind::Long => Location::LAST_TRIAL,
+        }
     }
 
     // And the trial is one of those that are made.
-    fn agrees_by(self, last: u8) -> bool
-        ensures { result ≡ agrees_by last self }
+    fn agrees_by(self, kind: MessageKind) -> bool
+        ensures { result ≡ agrees_by (last_trial (message_bytes kind)) self }
     {
-        if !self.agrees() {
-            return false;
-        }
-        self.trial <= last
+        self.agrees() && self.trial <= Location::last_trial(kind)
     }
 
     // The record without its place: 7 comes before 8.
-    fn record_by(self, last: u8, bytes: usize) -> u32
-        ensures { result ≡ record_by last bytes self }
+    #[tactic(auto, unfolding(crate::specs::Agrees::record_number))]
+    fn check_record(self, kind: MessageKind) -> Result<(), Refusal>
+        ensures { told_number result ≡ record_number (message_bytes kind) self }
     {
-        let repairs = self.repairs;
-        let honest = self.agrees_by(last);
-        let inside = lie_inside(bytes, repairs);
-        if !honest {
-            return 7;
+        if !self.agrees_by(kind) {
+            Err(Refusal::Place)
+        } else if !lie_inside(kind.bytes(), self.repairs) {
+            Err(Refusal::Position)
+        } else {
+            Ok(())
         }
-        if !inside {
-            return 8;
-        }
-        0
     }
 
-    // What is refused of a location for a message of 14 bytes: 7 one that ends behind the window, or a record that does not agree; 8 a
-    // position outside the message.
-    pub fn refusal(self) -> u32
-        ensures { result ≡ location_number 14 self }
+    // What is refused of a location: 7 one that ends behind the window, or a record that does not agree; 8 a position outside the message.
+    #[tactic(auto, unfolding(crate::specs::Agrees::location_number))]
+    pub fn check(self, kind: MessageKind) -> Result<(), Refusal>
+        ensures { told_number result ≡ location_number (message_bytes kind) self }
     {
-        let place = self.place;
-        if !place.is_within() {
-            return 7;
+        if !self.place.is_within(kind) {
+            return Err(Refusal::Place);
         }
-        self.record_by(Location::LAST_TRIAL, 14)
-    }
-
-    // For one of 7 bytes: trials 1 to 4.
-    pub fn refusal_short(self) -> u32
-        ensures { result ≡ location_number 7 self }
-    {
-        let place = self.place;
-        if !place.is_within_short() {
-            return 7;
-        }
-        self.record_by(Location::SHORT_LAST_TRIAL, 7)
+        self.check_record(kind)
     }
 
     // The same reading where a step leads to, unless the step or the record is refused.
-    fn carried(self, step: Stepped, number: u32) -> Neighbour
-        ensures { neighbour_told result ≡ carried number self (stepped_told step) }
+    fn carried(
+        self,
+        step: Result<Place, Refusal>,
+        checked: Result<(), Refusal>,
+    ) -> Result<Location, Refusal>
+        ensures { told result ≡ carried (told_number checked) self (told step) }
     {
-        let slicer = self.slicer;
-        let repairs = self.repairs;
-        match step {
-            Stepped::To(place) => {
-                if number != 0 {
-                    return Neighbour::Refused(number);
-                }
-                Neighbour::At(Location {
-                    place,
-                    trial: self.trial,
-                    slicer,
-                    repairs,
-                })
-            }
-            Stepped::Refused(n) => Neighbour::Refused(n),
-        }
+        let place = step?;
+        checked?;
+        Ok(Location { place, ..self })
     }
 
     // One clock phase back.
-    pub fn earlier(self) -> Neighbour
-        ensures { neighbour_told result ≡ earlier_location 14 self }
+    #[tactic(auto, unfolding(crate::specs::Agrees::earlier_location))]
+    pub fn earlier(self, kind: MessageKind) -> Result<Location, Refusal>
+        ensures { told result ≡ earlier_location (message_bytes kind) self }
     {
-        let place = self.place;
-        self.carried(place.earlier(), self.record_by(Location::LAST_TRIAL, 14))
-    }
-
-    pub fn earlier_short(self) -> Neighbour
-        ensures { neighbour_told result ≡ earlier_location 7 self }
-    {
-        let place = self.place;
-        self.carried(
-            place.earlier_short(),
-            self.record_by(Location::SHORT_LAST_TRIAL, 7),
-        )
+        self.carried(self.place.earlier(kind), self.check_record(kind))
     }
 
     // One clock phase on.
-    pub fn later(self) -> Neighbour
-        ensures { neighbour_told result ≡ later_location 14 self }
+    #[tactic(auto, unfolding(crate::specs::Agrees::later_location))]
+    pub fn later(self, kind: MessageKind) -> Result<Location, Refusal>
+        ensures { told result ≡ later_location (message_bytes kind) self }
     {
-        let place = self.place;
-        self.carried(place.later(), self.record_by(Location::LAST_TRIAL, 14))
-    }
-
-    pub fn later_short(self) -> Neighbour
-        ensures { neighbour_told result ≡ later_location 7 self }
-    {
-        let place = self.place;
-        self.carried(
-            place.later_short(),
-            self.record_by(Location::SHORT_LAST_TRIAL, 7),
-        )
+        self.carried(self.place.later(kind), self.check_record(kind))
     }
 }

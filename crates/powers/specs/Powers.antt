@@ -2,13 +2,11 @@
 -- Assumes nothing.
 use Rattle.std.specs.Prelude.{List, cond, ℕ, ◌+◌, ◌-◌, ◌*◌, eqb, length, Float}
 use Rattle.lists.specs.Bits.{bit_at}
-use Rattle.lists.specs.Told.{Told, done, refused, tell}
+use Rattle.lists.specs.Told.{Told, tell}
 use Rattle.annex10.specs.Length.{message_length}
 use Rattle.math.specs.Complex.{plus_of, norm_of}
 use Rattle.math.specs.Sum.{total}
 use Rattle.kernels.specs.Symbols.{complex_at}
-use Rattle.powers.specs.declared.power.Power.{Power}
-use Rattle.powers.specs.declared.power.Power.TheVariants.{Is, Refused}
 
 -- the norm of the pulse symbol of bit j: the first of its pair for bit 1, the second for bit 0
 unfoldable pub pulse_norm : List Float → List ℕ → ℕ → Float
@@ -37,11 +35,6 @@ power_number floats xs message =
     (cond (eqb (length xs) (floats * length message)) 0
     2)
     2
-
--- an answer: its number, and the power with number 0
-abbrev pub power_told : Power → Told Float
-power_told (Is p) = done p
-power_told (Refused n) = refused n
 
 -- what `postdecode_power` answers: 16 symbols for each byte
 unfoldable pub power_at : List Float → List ℕ → Told Float

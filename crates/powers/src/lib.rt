@@ -3,6 +3,5 @@
 
 pub mod around;
 pub mod both;
-mod complex;
 mod norms;
 pub mod power;

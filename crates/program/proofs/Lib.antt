@@ -1,4 +1,3 @@
 pub mod Texts
-pub mod Within
 pub mod Listed
 pub mod Ended

@@ -9,6 +9,7 @@ use borrow.Author.Tests.{leb-false}
 use lib.Dec.{eqb, leb}
 use lib.ListN.{length, take, drop, replicate}
 use lib.Seq.{take_all, take-append_seam}
+use Rattle.refusals.specs.declared.Refusal.TheVariants.{Malformed}
 use Rattle.listing.specs.Lines.{text_of}
 use Rattle.feed.specs.declared.State.{State}
 use Rattle.feed.specs.declared.Fed.{Fed}
@@ -36,7 +37,7 @@ texts_append (l ∷ ls) b =
 failed_line : (s : State) (a b : List ℕ) → line_of (failed_of s).said a ≡ line_of (failed_of s).said b
 unfolding failed_of
 failed_line s a b = go (eqb (wanted_of s) 0) where
-  go : (t : Bool) → line_of (cond t (says Nothing s) (refuses_with 10)).said a ≡ line_of (cond t (says Nothing s) (refuses_with 10)).said b
+  go : (t : Bool) → line_of (cond t (says Nothing s) (refuses_with Malformed)).said a ≡ line_of (cond t (says Nothing s) (refuses_with Malformed)).said b
   go true = refl
   go false = refl
 

@@ -1,16 +1,10 @@
--- What private functions rest on: the bytes that a read brought lie within the memory that it was to fill; and what a step brings nearer.
+-- What private functions rest on: what a step brings nearer.
 -- Assumes nothing.
-use Rattle.std.specs.Prelude.{◌≡◌, ◌≢◌, ℕ, ◌≤◌, ◌<◌}
+use Rattle.std.specs.Prelude.{◌≡◌, ◌≢◌, ◌<◌}
 use Rattle.feed.specs.declared.Stage.TheVariants.{Over}
 use Rattle.feed.specs.declared.State.{State}
 use Rattle.feed.specs.Machine.{wanted_of, blank_of}
 use Rattle.feed.specs.Statement.{left_of}
-use Rattle.program.specs.declared.Came.{Came}
-use Rattle.program.specs.declared.Came.TheVariants.{Bytes, Failure}
-
-abbrev pub Within : Came → ℕ → Type 0
-Within (Bytes n) size = n ≤ size
-Within Failure size = Unit {0}
 
 -- from a state in which something is wanted: fewer parts are left, and where nothing is wanted any more all is over, with nothing kept
 pub record Nearer (s next : State) : Type 0 where

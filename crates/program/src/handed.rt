@@ -7,33 +7,31 @@ use feed::State;
 use feed::machine::{failed, feed};
 use listing::Text;
 
-#[derive(Clone, Copy)]
+#[derive(Clone, Copy, Debug, PartialEq)]
 pub struct Step {
     pub state: State,
     pub text: Text,
 }
 
+#[tactic(auto, using(feed::proofs::Whole::whole), unfolding(crate::specs::Printed::taken_of))]
 pub fn taken(slowly: bool, state: State, part: &[u8]) -> Step
     ensures { result ≡ taken_of state part.now }
 {
     let fed = feed(state, part);
-    let said = fed.said;
-    let next = fed.state;
     Step {
-        state: next,
-        text: text_of(slowly, said, part),
+        state: fed.state,
+        text: text_of(slowly, fed.said, part),
     }
 }
 
 // The part could not be read.
+#[tactic(auto, using(feed::proofs::Whole::whole_failed), unfolding(crate::specs::Printed::broken_off))]
 pub fn broken_off(slowly: bool, state: State) -> Step
     ensures { result ≡ broken_off state }
 {
     let fed = failed(state);
-    let said = fed.said;
-    let next = fed.state;
     Step {
-        state: next,
-        text: text_of(slowly, said, b""),
+        state: fed.state,
+        text: text_of(slowly, fed.said, b""),
     }
 }

@@ -5,56 +5,42 @@
 mod handed;
 mod text;
 
-ghost use Rattle.std.specs.Prelude.{◌≡◌, ◌≤◌, length};
+ghost use Rattle.std.specs.Prelude.{◌≡◌, ◌≤◌, length, IfOk};
 ghost use Rattle.feed.specs.declared.Stage.TheVariants.{Over};
 ghost use Rattle.feed.specs.Machine.{blank_of};
-ghost use Rattle.program.specs.Inner.{Within, Nearer};
+ghost use Rattle.program.specs.Inner.{Nearer};
 
 use crate::handed::{Step, broken_off, taken};
 use feed::State;
 use feed::machine::{start, wanted};
 use listing::Text;
+use std::io;
 use std::io::{Read, Stdin, Stdout};
 
-// What a read brought: so many bytes, fewer than were asked for only at the end of the input, or nothing because it failed.
-#[derive(Clone, Copy)]
-enum Came {
-    Bytes(usize),
-    Failure,
-}
-
-// Reads until so many bytes are there, the input ends or a read fails.
-fn read_part(mut input: Stdin, space: &mut [u8], wanted: usize) -> Came
-    requires { wanted ≤ length space.old }
-    ensures { Within result (length space.new) }
+// Reads until the part is full or the input ends: how many bytes came, which `read_exact` would not tell.
+fn read_part(mut input: Stdin, part: &mut [u8]) -> io::Result<usize>
+    ensures { IfOk result (λ n. n ≤ length part.new) }
 {
-    let mut n: usize = 0;
-    while n < wanted {
-        match input.read(&mut space[n..wanted]) {
-            Ok(0) => return Came::Bytes(n),
-            Ok(more) => n += more,
-            Err(_) => return Came::Failure,
+    let mut n = 0;
+    while n < part.len() {
+        match input.read(&mut part[n..])? {
+            0 => break,
+            more => n += more,
         }
     }
-    Came::Bytes(n)
-}
-
-fn hand_over(slowly: bool, state: State, space: &[u8], n: usize) -> Step
-    requires { n ≤ length space.now }
-    ensures { Nearer state result.state }
-{
-    taken(slowly, state, &space[..n])
+    Ok(n)
 }
 
 // Reads as many bytes as are wanted, and hands them over.
+#[tactic(auto, using(feed::proofs::Left::wanted_most, crate::proofs::Ended::wanted_within, crate::proofs::Ended::nearer_taken, crate::proofs::Ended::nearer_broken), unfolding(crate::specs::Printed::taken_of, crate::specs::Printed::broken_off))]
 fn step_in(input: Stdin, slowly: bool, state: State, space: &mut [u8]) -> Step
     requires { length space.old ≡ 9240 }
     ensures { Nearer state result.state }
 {
-    let came = read_part(input, space, wanted(state));
-    match came {
-        Came::Bytes(n) => hand_over(slowly, state, space, n),
-        Came::Failure => broken_off(slowly, state),
+    let part = &mut space[..wanted(state)];
+    match read_part(input, part) {
+        Ok(n) => taken(slowly, state, &part[..n]),
+        Err(_) => broken_off(slowly, state),
     }
 }
 
@@ -62,20 +48,14 @@ fn step_in(input: Stdin, slowly: bool, state: State, space: &mut [u8]) -> Step
 fn step(input: Stdin, slowly: bool, state: State) -> Step
     ensures { Nearer state result.state }
 {
-    let mut space = [0u8; 9240];
-    step_in(input, slowly, state, &mut space)
+    step_in(input, slowly, state, &mut [0; 9240])
 }
 
-// The first bytes. What is said is never longer than the text that holds it. What cannot be written is lost, and the program goes on.
-fn write_first(output: Stdout, bytes: &[u8], length: usize) {
-    if length <= bytes.len() {
-        let _ = output.write_all(&bytes[..length]);
+// What is said is never longer than the text that holds it. What cannot be written is lost, and the program goes on.
+fn print(output: Stdout, text: &Text) {
+    if let Some(bytes) = text.bytes.get(..text.length) {
+        let _ = output.write_all(bytes);
     }
-}
-
-fn print(output: Stdout, text: Text) {
-    let bytes = text.bytes;
-    write_first(output, &bytes, text.length);
 }
 
 // The program, to its end. A contract speaks of no input and no output: that it prints the listing is `Prints` in specs/Printed.antt. What it
@@ -86,10 +66,8 @@ pub fn run(input: Stdin, output: Stdout, slowly: bool) -> State
     let mut state = start();
     while wanted(state) > 0 {
         let step = step(input, slowly, state);
-        let text = step.text;
-        print(output, text);
-        let next = step.state;
-        state = next;
+        print(output, &step.text);
+        state = step.state;
     }
     state
 }

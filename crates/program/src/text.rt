@@ -1,6 +1,9 @@
 // The text of what is said: a line of the listing, the two of a window, or nothing.
-ghost use Rattle.std.specs.Prelude.{◌≡◌, [], length};
+ghost use Rattle.std.specs.Prelude.{◌≡◌, length};
 ghost use Rattle.lists.specs.From.{tabulate};
+ghost use Rattle.search.specs.Kinds.{long, short};
+ghost use Rattle.search.specs.Short.{short_answer};
+ghost use Rattle.search.specs.Answers.{decode_of};
 ghost use Rattle.words.specs.Words.{float_at};
 ghost use Rattle.listing.specs.Lines.{text_of};
 ghost use Rattle.feed.specs.Run.{line_of};
@@ -11,56 +14,38 @@ use feed::{Said, Shot};
 use listing::Text;
 use listing::lines::{head_line, refused_line, window_lines};
 use receiver::decode::{decode_both, decode_both_slowly};
-use search::Settings;
+use search::{BothAnswers, Settings};
 use words::float::window_floats;
 
-fn decoded(slowly: bool, k: u64, samples: &[f32; 2310], s: Settings, index: u64) -> Text
-    ensures { result ≡ text_of (window_text k samples.now s index) }
+fn decoded(slowly: bool, samples: &[f32], s: Settings, index: u64) -> BothAnswers
+    ensures { result ≡ record { long = decode_of long samples.now s index; short = short_answer (decode_of short samples.now s index) } }
 {
-    let both = if slowly {
+    if slowly {
         decode_both_slowly(samples, s, index)
     } else {
         decode_both(samples, s, index)
-    };
-    let long = both.long;
-    let short = both.short;
-    window_lines(k, long, short)
-}
-
-fn window_text(slowly: bool, k: u64, part: &[u8], s: Settings, index: u64) -> Text
-    requires { length part.now ≡ 9240 }
-    ensures { result ≡ text_of (window_text k (tabulate 2310 (float_at part.now)) s index) }
-{
-    let mut samples = [0.0f32; 2310];
-    window_floats(part, &mut samples);
-    decoded(slowly, k, &samples, s, index)
-}
-
-fn shot_text(slowly: bool, w: Shot, part: &[u8]) -> Text
-    requires { length part.now ≡ 9240 }
-    ensures { result ≡ text_of (window_text w.window (tabulate 2310 (float_at part.now)) w.settings w.index) }
-{
-    let settings = w.settings;
-    window_text(slowly, w.window as u64, part, settings, w.index)
-}
-
-fn no_text() -> Text
-    ensures { result ≡ text_of [] }
-{
-    Text {
-        length: 0,
-        bytes: [0u8; 256],
     }
 }
 
+fn shot_text(slowly: bool, shot: Shot, part: &[u8]) -> Text
+    requires { length part.now ≡ 9240 }
+    ensures { result ≡ text_of (window_text shot.window (tabulate 2310 (float_at part.now)) shot.settings shot.index) }
+{
+    let mut samples = [0.0; 2310];
+    window_floats(part, &mut samples);
+    let both = decoded(slowly, &samples, shot.settings, shot.index);
+    window_lines(u64::from(shot.window), both.long, both.short)
+}
+
+#[tactic(auto, using(crate::proofs::Texts::texts_one), unfolding(feed::specs::Listing::texts, feed::specs::Listing::line_text, listing::specs::Lines::text_of))]
 pub fn text_of(slowly: bool, said: Said, part: &[u8]) -> Text
     requires { Whole said part.now }
     ensures { result ≡ text_of (texts (line_of said part.now)) }
 {
     match said {
-        Said::Nothing => no_text(),
-        Said::Head(n) => head_line(n as u64),
-        Said::Window(w) => shot_text(slowly, w, part),
-        Said::Refused(n) => refused_line(n as u64),
+        Said::Nothing => Text::EMPTY,
+        Said::Head(n) => head_line(u64::from(n)),
+        Said::Window(shot) => shot_text(slowly, shot, part),
+        Said::Refused(refusal) => refused_line(u64::from(refusal.number())),
     }
 }

@@ -3,6 +3,8 @@
 --     all_listing      the list of all places, with what clears them
 --     all_searched     the search over it
 -- Assumes nothing.
+use Rattle.std.specs.Prelude as code
+use Rattle.std.specs.Result.{result_unwrap_or}
 use mathlib.Core.Path.{◌≡◌, refl, sym, ap, ◌∙◌}
 use mathlib.Core.List.{List}
 use mathlib.Core.Option.{Option, none}
@@ -12,16 +14,15 @@ use lib.ListN.{length, get_or, take}
 use lib.Seq.{take_all}
 use lib.Ieee.{Float}
 use Rattle.lists.specs.From.{from, tabulate}
-use Rattle.lists.specs.Told.{done}
+use Rattle.refusals.specs.declared.Refusal.{Refusal}
+use Rattle.refusals.specs.Refusals.{told}
 use Rattle.lists.proofs.Table.{length_tabulate, get_d_tabulate}
-use Rattle.lists.proofs.Telling.{same_values, not_done}
 use Rattle.annex10.specs.Remainder.{remainder}
 use Rattle.annex10.specs.Any.{clearing_up_to}
 use Rattle.annex10.specs.Codes.{code_of}
-use Rattle.annex10.specs.Mend.{mended, mended_told, repair_of}
+use Rattle.annex10.specs.Mend.{mended, repair_of}
 use Rattle.annex10.specs.declared.Found.{Found}
-use Rattle.annex10.specs.declared.Mended.{Mended}
-use Rattle.annex10.specs.declared.Mended.TheVariants.{Is, Refused}
+use Rattle.annex10.specs.declared.Found.TheVariants.{Nothing}
 use Rattle.annex10.proofs.Mending.{mended_is, repair_done}
 use Rattle.place.specs.declared.Place.{Place}
 use Rattle.place.specs.declared.Slicer.{Slicer}
@@ -34,7 +35,6 @@ use Rattle.streams.specs.Streams.{message_at}
 use Rattle.repairs.specs.Codes.{code_up_to}
 use Rattle.search.specs.declared.Settings.{Settings}
 use Rattle.search.specs.declared.Candidate.{Candidate}
-use Rattle.search.specs.declared.Survivor.{Survivor}
 use Rattle.search.specs.Choice.{better, scan, candidate_at, best}
 use Rattle.search.specs.Kinds.{Kind}
 use Rattle.search.specs.Seen.{seen}
@@ -43,6 +43,7 @@ use Rattle.scan.specs.Lanes.{lane_bytes}
 use Rattle.scan.specs.Sieve.{lane_of}
 use Rattle.scan.proofs.Starting.{place_start, stream_lane}
 use Rattle.receiver.specs.Inner.{held_of, Scanned, Listing, Finds, found_by, trial_code, over}
+use Rattle.receiver.proofs.Never.{unwrapped}
 use Rattle.receiver.proofs.EitherKind.{Right}
 use Rattle.receiver.proofs.Finding.{crc_at_law, best_is}
 use Rattle.receiver.proofs.Repaired.{code_finds}
@@ -50,18 +51,12 @@ use Rattle.receiver.proofs.Repaired.{code_finds}
 -- ---- one message
 
 module _ (n most level : ℕ) (m : List ℕ) (e : length m ≡ n) (l : level ≤ 2) where
-  answers : (r : Mended) → mended_told r ≡ repair_of n most level m → mended_told r ≡ done (mended (min level most) m)
-  answers r q = q ∙ sym (repair_done n most level m e l refl refl)
-
-  pub code_tried : {r : Mended} {f : Found} {c : ℕ} → mended_told r ≡ repair_of n most level m → r ≡ Is f → c ≡ code_of f
+  pub code_tried : (r : code.Result Found Refusal) {f : Found} {c : ℕ} → told r ≡ repair_of n most level m → f ≡ result_unwrap_or r Nothing → c ≡ code_of f
       → c ≡ code_up_to n (min level most) (remainder m)
   unfolding code_up_to
-  code_tried {r} {f} q g h =
-      let y : f ≡ mended (min level most) m = same_values (ap mended_told (sym g) ∙ answers r q) in
+  code_tried r {f} q g h =
+      let y : f ≡ mended (min level most) m = unwrapped r Nothing g (q ∙ sym (repair_done n most level m e l refl refl)) in
       h ∙ ap code_of (y ∙ mended_is (min level most) m ∙ ap (λ (x : ℕ). clearing_up_to x (min level most) (remainder m)) e)
-
-  pub never_refused : {r : Mended} {x : ℕ} → mended_told r ≡ repair_of n most level m → r ≡ Refused x → ⊥
-  never_refused {r} q g = not_done (ap mended_told (sym g) ∙ answers r q)
 
 -- ---- all places
 
@@ -119,7 +114,7 @@ unfolding over scan from
 over_all f zero i h = refl
 over_all f (suc n) i h = over_all f n (suc i) (better h (f (place_at i)))
 
-pub all_searched : (k : Kind) (samples : List Float) (s : Settings) {list : List ℕ} {x : Survivor} {n : ℕ}
+pub all_searched : (k : Kind) (samples : List Float) (s : Settings) {list : List ℕ} {x : code.Option Candidate} {n : ℕ}
     → list ≡ tabulate (8 * k.last) (λ (i : ℕ). i) → n ≡ 8 * k.last
     → x ≡ held_of k (over (candidate_at k s (seen k samples)) place_at none (take n list)) → x ≡ held_of k (best k s (seen k samples))
 unfolding tabulate

@@ -1,4 +1,5 @@
 -- What the two kinds of message have in common, as far as the bodies for both rest on it.
+--     kind_bytes, kind_last, kind_most, kind_header     a kind, in the words of the search
 --     right     both are so
 --     within_listed     a message at a place that is searched ends within the window
 --     led       the bit that every header has set
@@ -10,15 +11,16 @@ use mathlib.Core.List.{List}
 use Prim.Native.Nat.{ℕ, ◌+◌, ◌-◌, ◌*◌, ◌≤◌, min}
 use native.Mathlib.Nat.{min-le_left, min_comm}
 use native.Mathlib.Omega.{arith}
-use Rattle.annex10.specs.Length.{message_length}
+use Rattle.annex10.specs.Length.{message_length, message_bytes, most_repairs}
+use Rattle.annex10.specs.Header.{listed_header}
 use Rattle.annex10.specs.Repair.{Apart}
 use Rattle.annex10.proofs.Length.{short_length, long_length}
 use Rattle.annex10.proofs.Unique.{apart_14, apart_7}
-use Rattle.mode_s.specs.declared.message.MessageKind.{MessageKind}
-use Rattle.mode_s.specs.declared.message.MessageKind.TheVariants.{Short, Long}
+use Rattle.annex10.specs.declared.MessageKind.{MessageKind}
+use Rattle.annex10.specs.declared.MessageKind.TheVariants.{Short, Long}
 use Rattle.place.specs.declared.Place.{Place}
 use Rattle.place.specs.declared.location.Location.{Location}
-use Rattle.place.specs.All.{listed}
+use Rattle.place.specs.All.{listed, last_bit}
 use Rattle.place.specs.Agrees.{location_number}
 use Rattle.place.proofs.Within.{Within}
 use Rattle.place.proofs.Steps.{listed_within}
@@ -26,8 +28,30 @@ use Rattle.streams.specs.Streams.{message_at}
 use Rattle.streams.specs.Distances.{differing}
 use Rattle.search.specs.Kinds.{Kind, long, short}
 use Rattle.search.proofs.Locating.{Makes, made_long, made_short}
+use Rattle.scan.specs.Exact.{lead_of}
 use Rattle.scan.proofs.Exacting.{Led, led_long, led_short}
-use Rattle.receiver.specs.Inner.{Streams, kind_of, lead_of}
+use Rattle.receiver.specs.Inner.{Streams, kind_of}
+
+-- a kind, in the words of the search
+pub kind_bytes : (kind : MessageKind) → (kind_of kind).bytes ≡ message_bytes kind
+unfolding long short
+kind_bytes Long = refl
+kind_bytes Short = refl
+
+pub kind_last : (kind : MessageKind) → (kind_of kind).last ≡ last_bit kind
+unfolding long short
+kind_last Long = refl
+kind_last Short = refl
+
+pub kind_most : (kind : MessageKind) → (kind_of kind).most ≡ most_repairs kind
+unfolding long short
+kind_most Long = refl
+kind_most Short = refl
+
+pub kind_header : (kind : MessageKind) → (kind_of kind).header ≡ listed_header kind
+unfolding long short
+kind_header Long = refl
+kind_header Short = refl
 
 pub record Right (k : Kind) : Type 0 where
   pub whole : message_length k.bytes ≡ true

@@ -6,6 +6,7 @@
 --     lent_known       what clears the two messages, and whether their remainders differ
 --     best_is          all places
 -- Assumes nothing.
+use Rattle.std.specs.Prelude as code
 use mathlib.Core.Path.{◌≡◌, refl, sym, ap, ◌∙◌, subst}
 use mathlib.Core.Bool.{Bool, true, not, cond}
 use mathlib.Core.List.{List}
@@ -29,7 +30,7 @@ use Rattle.place.specs.Step.{sample_start}
 use Rattle.place.specs.All.{listed, place_at}
 use Rattle.place.proofs.Within.{listed_gives}
 use Rattle.place.proofs.All.{counted}
-use Rattle.kernels.specs.Symbols.{sums_of}
+use Rattle.kernels.specs.Symbols.{sums_of, symbols_of}
 use Rattle.kernels.proofs.Summing.{symbols_length}
 use Rattle.streams.specs.Streams.{message_at}
 use Rattle.scan.specs.Flat.{bits_from, crc_in, crcs_in, message_from, room_for, scanned, scanned_both}
@@ -40,7 +41,6 @@ use Rattle.search.specs.declared.Settings.{Settings}
 use Rattle.search.specs.declared.Tried.{Tried}
 use Rattle.search.specs.declared.Tried.TheVariants.{Pass, Fail}
 use Rattle.search.specs.declared.Candidate.{Candidate}
-use Rattle.search.specs.declared.Survivor.{Survivor}
 use Rattle.search.specs.Trials.{reading}
 use Rattle.search.proofs.Passing.{Passes, sound}
 use Rattle.search.specs.Choice.{candidate, dropped, survivor, candidate_at, scan, best}
@@ -70,8 +70,8 @@ scanned_sizes k samples coherent noncoherent crcs others w =
       second_crcs = ap length w.second_crcs ∙ crcs_length k Noncoherent samples;
     }
 
-pub sums_length : (k : Kind) (samples symbols : List Float) (coherent noncoherent crcs others : List ℕ) → Ready k samples symbols coherent noncoherent crcs others → length symbols ≡ 2304
-sums_length k samples symbols coherent noncoherent crcs others w = ap length w.sums ∙ symbols_length samples
+pub symbols_there : (samples : List Float) {symbols : List Float} → symbols ≡ symbols_of samples → length symbols ≡ 2304
+symbols_there samples e = ap length e ∙ symbols_length samples
 
 -- what a scan has written
 room_made : (many : ℕ) (z : List Float) (a b c d : List ℕ) → length z ≡ 2304 → length a ≡ 1152 → length b ≡ 1152 → length c ≡ many → length d ≡ many
@@ -188,7 +188,7 @@ crc_at_law k r slicer samples p h =
     ∙ ap (λ (j : ℕ). remainder (message_from k.bytes (bits_from slicer samples) j)) e
     ∙ ap remainder (sym (bits_start k.bytes slicer samples p (omega (arith, l.phase)) (omega (arith, l.symbol)) (omega (arith, l.to, r.last))))
 
--- ---- what the code lends: i is 576
+-- ---- what the code lends
 
 module _ (k : Kind) (right : Right k) (samples symbols : List Float) (coherent noncoherent crcs others : List ℕ) (ready : Ready k samples symbols coherent noncoherent crcs others)
     (p : Place) (h : listed k.last p ≡ true) where
@@ -211,13 +211,13 @@ module _ (k : Kind) (right : Right k) (samples symbols : List Float) (coherent n
       let l = listed_gives k.last p h in
       ap (λ (x : List ℕ). lane_bytes x lane) ready.scanned.second ∙ stream_lane Noncoherent samples p (omega (arith, l.phase)) (omega (arith, l.symbol))
 
-  pub lent_read : (s : Settings) (i : ℕ) {x : Survivor} → i ≡ 576
-      → x ≡ held_of k (candidate_at k s (seen_at k samples (take i (drop (576 * p.phase) symbols)) first second) p)
+  pub lent_read : (s : Settings) {x : code.Option Candidate} {lent : List Float} → lent ≡ take 576 (drop (576 * p.phase) symbols)
+      → x ≡ held_of k (candidate_at k s (seen_at k samples lent first second) p)
       → x ≡ held_of k (candidate_at k s (unmarked (seen k samples)) p)
   unfolding row
-  lent_read s i z e =
-      let r : take i (drop (576 * p.phase) symbols) ≡ row samples p.phase = rw (z, ready.sums) in
-      e ∙ rw (r, first_is, second_is) (ap (held_of k) (seen_there k samples p s))
+  lent_read s z e =
+      let r : take 576 (drop (576 * p.phase) symbols) ≡ row samples p.phase = rw ready.sums in
+      e ∙ rw (z, r, first_is, second_is) (ap (held_of k) (seen_there k samples p s))
 
   pub lent_lane : Lane k coherent noncoherent lane p.bit
   lent_lane =

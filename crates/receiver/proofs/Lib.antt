@@ -1,3 +1,4 @@
+pub mod Never
 pub mod EitherKind
 pub mod Looking
 pub mod Prompting
@@ -10,11 +11,9 @@ pub mod Counted
 pub mod Finding
 pub mod Widening
 pub mod Deciding
-pub mod Told
 pub mod Kept
 pub mod Listed
 pub mod Stages
 pub mod Repaired
-pub mod Taking
 pub mod Traying
 pub mod ByTrial

@@ -5,6 +5,7 @@
 --     searched       the search over it, where the places that are left out hold nothing
 --     exact_finds    what clears a remainder without repairs
 -- Assumes nothing.
+use Rattle.std.specs.Prelude as code
 use mathlib.Core.Path.{◌≡◌, refl, sym, ap, ◌∙◌, subst}
 use mathlib.Core.Bool.{Bool, true, false, cond}
 use mathlib.Core.List.{List}
@@ -25,14 +26,12 @@ use Rattle.place.specs.declared.Place.{Place}
 use Rattle.place.specs.Step.{sample_start}
 use Rattle.place.specs.All.{place_at}
 use Rattle.search.specs.declared.Candidate.{Candidate}
-use Rattle.search.specs.declared.Survivor.{Survivor}
 use Rattle.search.specs.Choice.{beats, better, scan}
-use Rattle.search.specs.Kinds.{Kind, long}
-use Rattle.search.specs.Answers.{survivor_of}
+use Rattle.search.specs.Kinds.{Kind}
 use Rattle.scan.specs.Sieve.{kept, lane_of, onto}
 use Rattle.scan.proofs.Starting.{place_start}
 use Rattle.scan.proofs.Keeping.{below}
-use Rattle.receiver.specs.Inner.{held_of, takes_over, chosen_survivor, Finds, found_inside, repairs_of, found_of, found_by, over}
+use Rattle.receiver.specs.Inner.{held_of, chosen_of, Finds, found_inside, repairs_of, found_of, found_by, over}
 use Rattle.receiver.proofs.Kept.{over_more, scan_kept}
 use Rattle.receiver.proofs.EitherKind.{Right}
 
@@ -63,8 +62,8 @@ searched f m t list count w z = ap (over f place_at none) w.front ∙ scan_kept 
 
 -- ---- the choice
 
-pub chosen_better : (k : Kind) (h x : Option Candidate) → chosen_survivor (held_of k h) (held_of k x) ≡ held_of k (better h x)
-unfolding chosen_survivor takes_over beats
+pub chosen_better : (k : Kind) (h x : Option Candidate) → chosen_of (held_of k h) (held_of k x) ≡ held_of k (better h x)
+unfolding beats
 chosen_better k none none = refl
 chosen_better k none (some x) = refl
 chosen_better k (some h) none = refl
@@ -75,8 +74,8 @@ chosen_better k (some h) (some x) = go (beats x h)
     go false = refl
 
 -- one place more of the list
-pub found_more : (k : Kind) (f : Place → Option Candidate) (list : List ℕ) (q : ℕ) {held new r : Survivor} → q < length list
-    → held ≡ held_of k (over f place_at none (take q list)) → new ≡ held_of k (f (place_at (get_or list q 0))) → r ≡ chosen_survivor held new
+pub found_more : (k : Kind) (f : Place → Option Candidate) (list : List ℕ) (q : ℕ) {held new r : code.Option Candidate} → q < length list
+    → held ≡ held_of k (over f place_at none (take q list)) → new ≡ held_of k (f (place_at (get_or list q 0))) → r ≡ chosen_of held new
     → r ≡ held_of k (over f place_at none (take (q + 1) list))
 found_more k f list q h a b e =
     e ∙ rw (a, b) (chosen_better k (over f place_at none (take q list)) (f (place_at (get_or list q 0))))
@@ -89,9 +88,8 @@ unfolding over
 found_none f list = refl
 
 -- where no place is listed
-pub nothing_listed : (k : Kind) (f : Place → Option Candidate) (ks : List ℕ) {n : ℕ} {x : Survivor} → n ≡ 0 → x ≡ survivor_of long none
-    → x ≡ held_of k (over f place_at none (take n ks))
-nothing_listed k f ks z e = e ∙ ap (held_of k) (found_none f ks ∙ ap (λ (n : ℕ). over f place_at none (take n ks)) (sym z))
+pub nothing_listed : (k : Kind) (f : Place → Option Candidate) (ks : List ℕ) {n : ℕ} → n ≡ 0 → code.None ≡ held_of k (over f place_at none (take n ks))
+nothing_listed k f ks z = ap (held_of k) (found_none f ks ∙ ap (λ (n : ℕ). over f place_at none (take n ks)) (sym z))
 
 -- the remainder of a place that is given by its number
 pub listed_finds : (k : Kind) (level : ℕ) (crcs : List ℕ) (code i : ℕ) {p : Place} → p ≡ place_at i

@@ -15,15 +15,12 @@ use native.Mathlib.Omega.{arith}
 use borrow.Author.Tests.{lt-ltb}
 use lib.ListN.{length}
 use lib.Ieee.{Float, lt}
-use Rattle.lists.specs.Told.{done}
+use Rattle.lists.specs.Told.{Told, done}
 use Rattle.place.specs.declared.Place.{Place}
 use Rattle.place.specs.declared.location.Location.{Location}
-use Rattle.place.specs.declared.location.Neighbour.{Neighbour}
-use Rattle.place.specs.declared.location.Neighbour.TheVariants.{At}
 use Rattle.place.specs.Step.{sample_start, starting_at, last_symbol}
-use Rattle.place.specs.Agrees.{location_number, neighbour_told, earlier_location, later_location}
+use Rattle.place.specs.Agrees.{location_number, earlier_location, later_location}
 use Rattle.place.specs.All.{listed, place_at, listed_at}
-use Rattle.place.proofs.Told.{neighbour_untold, neighbour_back}
 use Rattle.place.proofs.Within.{listed_gives, listed_is}
 use Rattle.place.proofs.Steps.{own_start, start_of, listed_room}
 use Rattle.place.proofs.Agreeing.{located_gives, earlier_carried, later_carried, earlier_kept, later_kept}
@@ -96,12 +93,12 @@ module _ (k : Kind) (w : Right k) where
 
   -- ---- a step
 
-  module _ (l : Location) (s : Neighbour) (t : location_number n l ≡ 0) where
-    pub earlier_is : 0 < sample_start l.place → neighbour_told s ≡ earlier_location n l → s ≡ At (started_at l (sample_start l.place - 1))
-    earlier_is h e = sym (neighbour_back s) ∙ ap neighbour_untold (e ∙ earlier_carried n l (located_gives n l t) h)
+  module _ (l : Location) (t : location_number n l ≡ 0) where
+    pub earlier_is : 0 < sample_start l.place → earlier_location n l ≡ done (started_at l (sample_start l.place - 1))
+    earlier_is h = earlier_carried n l (located_gives n l t) h
 
-    pub later_is : sample_start l.place < last_start → neighbour_told s ≡ later_location n l → s ≡ At (started_at l (sample_start l.place + 1))
-    later_is h e = sym (neighbour_back s) ∙ ap neighbour_untold (e ∙ later_carried n l (located_gives n l t) h)
+    pub later_is : sample_start l.place < last_start → later_location n l ≡ done (started_at l (sample_start l.place + 1))
+    later_is h = later_carried n l (located_gives n l t) h
 
   pub back_taken : (l : Location) → location_number n l ≡ 0 → 0 < sample_start l.place → location_number n (started_at l (sample_start l.place - 1)) ≡ 0
   back_taken l t h = (earlier_kept n l (started_at l (sample_start l.place - 1)) (earlier_carried n l (located_gives n l t) h)).taken
@@ -152,10 +149,10 @@ module _ (k : Kind) (w : Right k) where
     abbrev On : Location → Location → Type 0
     On m q = (q ≡ started_at m (sample_start m.place + 1)) × (location_number n q ≡ 0)
 
-    pub around_is : {q r u v : Location} {a b c d : List Float} {x : Around} → length symbols ≡ 2304
+    pub around_is : {q r u v : Location} {a b c d : List Float} {x : Told Around} → length symbols ≡ 2304
         → listed k.last l.place ≡ true → length message ≡ n → Back l q → On l r → Back q u → On r v
         → a ≡ part_in k w symbols u.place → b ≡ part_in k w symbols q.place → c ≡ part_in k w symbols r.place → d ≡ part_in k w symbols v.place
-        → x ≡ around_at a b c d message → x ≡ around_in k symbols message (sample_start l.place)
+        → x ≡ around_at a b c d message → x ≡ done (around_in k symbols message (sample_start l.place))
     unfolding around_in
     around_is {q} {r} {u} {v} z h m eq er eu ev ea eb ec ed ex =
         let at : Location → Place = λ y. y.place in

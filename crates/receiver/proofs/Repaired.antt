@@ -2,6 +2,8 @@
 --     repaired-front, repaired-listing   the list of them, and what clears them
 --     repaired_best                      the search over it, where nothing was found without repairs
 -- Assumes nothing.
+use Rattle.std.specs.Prelude as code
+use Rattle.std.specs.Result.{result_unwrap_or}
 use mathlib.Core.Path.{◌≡◌, refl, sym, ap, ◌∙◌}
 use mathlib.Core.Bool.{Bool, true, false}
 use mathlib.Core.List.{List, [], ◌∷◌, ◌++◌}
@@ -24,7 +26,9 @@ use Rattle.annex10.proofs.Positions.{proper_inside}
 use Rattle.annex10.proofs.UpTo.{up_to_found, only_up_to, up_to_zero}
 use Rattle.repairs.specs.Codes.{code_up_to, codes_up_to, codes_up_to_into}
 use Rattle.scan.specs.Sieve.{kept, lane_of, onto}
-use Rattle.scan.specs.declared.list.Listed.{Listed}
+use Rattle.lists.specs.Told.{Told}
+use Rattle.refusals.specs.declared.Refusal.{Refusal}
+use Rattle.refusals.specs.Refusals.{told}
 use Rattle.sieve.specs.Repairable.{repairable_at, repairable_places, code_pairs, repairable_in, repairable_into}
 use Rattle.sieve.proofs.Clears.{not_listed}
 use Rattle.scan.proofs.Starting.{crc_start}
@@ -33,7 +37,7 @@ use Rattle.lists.proofs.Members.{member_of}
 use Rattle.place.specs.declared.Slicer.TheVariants.{Coherent, Noncoherent}
 use Rattle.place.specs.All.{place_at}
 use Rattle.search.specs.declared.Settings.{Settings}
-use Rattle.search.specs.declared.Survivor.{Survivor}
+use Rattle.search.specs.declared.Candidate.{Candidate}
 use Rattle.search.specs.Trials.{cleared}
 use Rattle.search.specs.Choice.{candidate_at, best}
 use Rattle.search.specs.Kinds.{Kind}
@@ -41,6 +45,7 @@ use Rattle.search.specs.Seen.{bits_at, window_of, seen}
 use Rattle.search.proofs.Scanning.{scan_none}
 use Rattle.search.proofs.Staging.{at_level, later_none}
 use Rattle.receiver.specs.Inner.{held_of, Scanned, Finds, found_inside, repairs_of, found_of, found_by, Listing, over}
+use Rattle.receiver.proofs.Never.{unwrapped}
 use Rattle.receiver.proofs.EitherKind.{Right}
 use Rattle.receiver.proofs.Finding.{best_is}
 use Rattle.receiver.proofs.Listed.{Front, front_of, searched}
@@ -159,19 +164,19 @@ module _ (k : Kind) (w : Right k) (crcs others : List ℕ) where
             };
       }
 
-  pub repaired_taken : (level : ℕ) (list codes : List ℕ) {x : Listed} {out told : List ℕ} → length crcs ≡ 8 * k.last → length others ≡ 8 * k.last
+  pub repaired_taken : (level : ℕ) (list codes : List ℕ) (r : code.Result ℕ Refusal) {count : ℕ} {out coded : List ℕ} → length crcs ≡ 8 * k.last → length others ≡ 8 * k.last
       → length list ≡ 8 * k.last → length codes ≡ 16 * k.last → level ≤ 2
-      → ◌≡◌ {A = Listed × List ℕ × List ℕ} (x, out, told) (repairable_into k.bytes k.most (8 * k.last) level crcs others list codes)
-      → Taken k (min level k.most) crcs others out told x.count
+      → ◌≡◌ {A = Told ℕ × List ℕ × List ℕ} (told r, out, coded) (repairable_into k.bytes k.most (8 * k.last) level crcs others list codes)
+      → count ≡ result_unwrap_or r 0 → Taken k (min level k.most) crcs others out coded count
   unfolding repairable_into repairable_in repairable_places
-  repaired_taken level list codes {x} {out} {told} a b c d l e =
+  repaired_taken level list codes r a b c d l e f =
       let i : length codes ≡ 2 * (8 * k.last) = omega (arith, d) in
       let q = simp (eq-eqb _ _ a, eq-eqb _ _ b, eq-eqb _ _ c, eq-eqb _ _ i, le-leb _ _ l) at e in
       let t = repairable_at k.bytes (min level k.most) crcs others in
       rw (
-        ap (λ (y : Listed × List ℕ × List ℕ). y.0.count) q,
-        ap (λ (y : Listed × List ℕ × List ℕ). y.1) q,
-        ap (λ (y : Listed × List ℕ × List ℕ). y.2) q,
+        unwrapped r 0 f (ap (λ (y : Told ℕ × List ℕ × List ℕ). y.0) q),
+        ap (λ (y : Told ℕ × List ℕ × List ℕ). y.1) q,
+        ap (λ (y : Told ℕ × List ℕ × List ℕ). y.2) q,
       )
       (front_taken (min level k.most) (kept t (8 * k.last)) list codes (front_of (8 * k.last) t list c) d)
 
@@ -202,7 +207,7 @@ module _ (k : Kind) (r : Right k) (samples : List Float) (coherent noncoherent c
       let (x, y) = not_listed k.bytes (min s.level k.most) crcs others i t m a b in
       (ap (clearing k.bytes m) (sym (first_crc i h)) ∙ x, ap (clearing k.bytes m) (sym (second_crc i h)) ∙ y))
 
-  pub repaired_best : (s : Settings) {list : List ℕ} {count : ℕ} {x : Survivor} → best k (at_level 0 s) (seen k samples) ≡ none
+  pub repaired_best : (s : Settings) {list : List ℕ} {count : ℕ} {x : code.Option Candidate} → best k (at_level 0 s) (seen k samples) ≡ none
       → Front (8 * k.last) (repairable_at k.bytes (min s.level k.most) crcs others) list count
       → x ≡ held_of k (over (candidate_at k s (seen k samples)) place_at none (take count list)) → x ≡ held_of k (best k s (seen k samples))
   repaired_best s {list} {count} z f e =

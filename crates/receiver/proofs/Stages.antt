@@ -3,8 +3,10 @@
 --     exact_best                   the search over it is that at level 0
 --     first_stage, only_stage      what it finds is what the search finds; at level 0 there is no other stage
 -- Assumes nothing.
+use Rattle.std.specs.Prelude as code
+use Rattle.std.specs.Result.{result_unwrap_or}
 use mathlib.Core.Path.{◌≡◌, refl, sym, ap, ◌∙◌}
-use mathlib.Core.Bool.{Bool, true, false, ◌&&◌, cond}
+use mathlib.Core.Bool.{Bool, true, false, false≢true, ◌&&◌, cond}
 use mathlib.Core.List.{List}
 use mathlib.Core.Option.{Option, none, some}
 use Prim.Native.Nat.{ℕ, ◌+◌, ◌*◌, min}
@@ -18,20 +20,22 @@ use Rattle.place.specs.declared.Slicer.TheVariants.{Coherent, Noncoherent}
 use Rattle.place.specs.All.{place_at}
 use Rattle.search.specs.declared.Settings.{Settings}
 use Rattle.search.specs.declared.Candidate.{Candidate}
-use Rattle.search.specs.declared.Survivor.{Survivor}
 use Rattle.search.specs.Choice.{candidate_at, best}
 use Rattle.search.specs.Window.{Window}
 use Rattle.search.specs.Kinds.{Kind}
 use Rattle.search.specs.Seen.{seen}
 use Rattle.search.specs.Answers.{settings_number}
 use Rattle.search.proofs.Staging.{at_level, exact_first}
-use Rattle.scan.specs.declared.list.Listed.{Listed}
+use Rattle.lists.specs.Told.{Told}
+use Rattle.refusals.specs.declared.Refusal.{Refusal}
+use Rattle.refusals.specs.Refusals.{told}
 use Rattle.scan.specs.Sieve.{lane_of}
 use Rattle.scan.specs.Flat.{bits_from, crcs_in}
 use Rattle.scan.specs.Exact.{exact, exact_into}
 use Rattle.scan.proofs.Listing.{exact_done}
 use Rattle.scan.proofs.Exacting.{Led, no_candidate_law}
 use Rattle.receiver.specs.Inner.{held_of, Scanned, Listing, over}
+use Rattle.receiver.proofs.Never.{unwrapped}
 use Rattle.receiver.proofs.EitherKind.{Right}
 use Rattle.receiver.proofs.Finding.{scanned_sizes, best_is}
 use Rattle.receiver.proofs.Listed.{Front, front_of, searched, exact_finds}
@@ -41,12 +45,13 @@ module _ (k : Kind) (r : Right k) (lead : ℕ) (led : Led k lead) (samples : Lis
   abbrev pub clean : ℕ → Bool
   clean = exact lead coherent noncoherent crcs others
 
-  pub exact_front : (list : List ℕ) {x : Listed} {out : List ℕ} → length list ≡ 8 * k.last
-      → ◌≡◌ {A = Listed × List ℕ} (x, out) (exact_into lead (8 * k.last) coherent noncoherent crcs others list) → Front (8 * k.last) clean out x.count
-  exact_front list {x} {out} h e =
+  pub exact_front : (list : List ℕ) (r : code.Result ℕ Refusal) {count : ℕ} {out : List ℕ} → length list ≡ 8 * k.last
+      → ◌≡◌ {A = Told ℕ × List ℕ} (told r, out) (exact_into lead (8 * k.last) coherent noncoherent crcs others list) → count ≡ result_unwrap_or r 0
+      → Front (8 * k.last) clean out count
+  exact_front list r {count} {out} h e f =
       let z = scanned_sizes k samples coherent noncoherent crcs others w in
       let q = e ∙ exact_done lead (8 * k.last) coherent noncoherent crcs others list z.first z.second z.first_crcs z.second_crcs h in
-      rw (ap (λ (y : Listed × List ℕ). y.0.count) q, ap (λ (y : Listed × List ℕ). y.1) q) (front_of (8 * k.last) clean list h)
+      rw (unwrapped r 0 f (ap (λ (y : Told ℕ × List ℕ). y.0) q), ap (λ (y : Told ℕ × List ℕ). y.1) q) (front_of (8 * k.last) clean list h)
 
   pub exact_listing : {list codes : List ℕ} {count level : ℕ} → Front (8 * k.last) clean list count → codes ≡ replicate (16 * k.last) 0 → level ≡ 0
       → Listing k level crcs others list codes count
@@ -63,7 +68,7 @@ module _ (k : Kind) (r : Right k) (lead : ℕ) (led : Led k lead) (samples : Lis
   same : (i : ℕ) → exact lead (bits_from Coherent samples) (bits_from Noncoherent samples) (crcs_in k.bytes (bits_from Coherent samples) (8 * k.last)) (crcs_in k.bytes (bits_from Noncoherent samples) (8 * k.last)) i ≡ clean i
   same i = rw (w.first, w.second, w.first_crcs, w.second_crcs)
 
-  pub exact_best : (s : Settings) {list : List ℕ} {count : ℕ} {x : Survivor} → s.level ≡ 0 → Front (8 * k.last) clean list count
+  pub exact_best : (s : Settings) {list : List ℕ} {count : ℕ} {x : code.Option Candidate} → s.level ≡ 0 → Front (8 * k.last) clean list count
       → x ≡ held_of k (over (candidate_at k s (seen k samples)) place_at none (take count list)) → x ≡ held_of k (best k s (seen k samples))
   exact_best s {list} {count} z f e =
       e ∙ ap (held_of k)
@@ -75,15 +80,15 @@ module _ (k : Kind) (r : Right k) (lead : ℕ) (led : Led k lead) (samples : Lis
 
 module _ (k : Kind) (s : Settings) (w : Window) where
   -- what is found without repairs is what the search finds
-  pub first_stage : {x : Survivor} → x ≡ held_of k (best k (at_level 0 s) w) → x.number ≡ 0 → x ≡ held_of k (best k s w)
+  pub first_stage : {x : code.Option Candidate} → x ≡ held_of k (best k (at_level 0 s) w) → code.is_some x ≡ true → x ≡ held_of k (best k s w)
   first_stage {x} e z = go (best k (at_level 0 s) w) refl e
     where
       go : (o : Option Candidate) → best k (at_level 0 s) w ≡ o → x ≡ held_of k o → x ≡ held_of k (best k s w)
-      go none q f = absurd (omega (arith, ap (λ (y : Survivor). y.number) f))
+      go none q f = absurd (false≢true (rw f at z))
       go (some c) q f = f ∙ ap (held_of k) (sym (exact_first k s w 0 (omega arith) q))
 
   -- at level 0 there is no other stage
-  pub only_stage : {x : Survivor} → s.level ≡ 0 → x ≡ held_of k (best k (at_level 0 s) w) → x ≡ held_of k (best k s w)
+  pub only_stage : {x : code.Option Candidate} → s.level ≡ 0 → x ≡ held_of k (best k (at_level 0 s) w) → x ≡ held_of k (best k s w)
   only_stage l e =
       e ∙ ap (λ (m : ℕ). held_of k (best k (record { level = m; threshold = s.threshold; second = s.second; distance = s.distance }) w)) (sym l)
 

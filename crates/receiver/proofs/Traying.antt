@@ -18,6 +18,8 @@ use lib.ListN.{length, get_or, take, drop, length-append, length-drop, drop_of_l
 use lib.Seq.{take_all, take_at, drop_at, length-take-le}
 use lib.Ieee.{Float}
 use borrow.Author.Tests.{eqb-true, leb-true, eq-eqb, ne_eqb, le-leb}
+use Rattle.refusals.specs.declared.Refusal.{Refusal}
+use Rattle.refusals.specs.Refusals as refusals
 use Rattle.search.specs.declared.Settings.{Settings}
 use Rattle.search.specs.declared.Answer.{Answer}
 use Rattle.search.specs.Kinds.{long, short}
@@ -26,6 +28,7 @@ use Rattle.rows.specs.Rows.{result_of, numbers_of, rows_of}
 use Rattle.rows.specs.Tray.{kinds_of, window_at, answers_of, fields_of, message_of, tray_row, bytes_in, words_in, floats_in, room_in, tray_number, tray_into}
 use Rattle.rows.proofs.Sizes.{decode_size, bytes_size, width_size}
 use Rattle.receiver.specs.Inner.{cut_answer}
+use Rattle.receiver.proofs.Deciding.{some_number}
 
 -- ---- a part of lent memory
 
@@ -160,11 +163,11 @@ module _ (both : Bool) (n : ℕ) (m w : List ℕ) (x : List Float) where
       pub whole : length w ≡ words_in (kinds_of both) * n
       pub pairs : length x ≡ floats_in (kinds_of both) * n
 
-    pub fitting : {r : ℕ} → r ≡ number → r ≡ 0 → Fitting
+    pub fitting : 0 ≡ number → Fitting
     unfolding tray_number room_in
-    fitting e z =
+    fitting e =
         go (leb n 64) (eqb (length samples) (2310 * n)) (eqb (length indices) n) (eqb (length m) (bytes_in (kinds_of both) * n))
-        (eqb (length w) (words_in (kinds_of both) * n)) (eqb (length x) (floats_in (kinds_of both) * n)) refl refl refl refl refl refl (sym e ∙ z)
+        (eqb (length w) (words_in (kinds_of both) * n)) (eqb (length x) (floats_in (kinds_of both) * n)) refl refl refl refl refl refl (sym e)
       where
         go : (a b c d f g : Bool) → leb n 64 ≡ a → eqb (length samples) (2310 * n) ≡ b → eqb (length indices) n ≡ c
             → eqb (length m) (bytes_in (kinds_of both) * n) ≡ d → eqb (length w) (words_in (kinds_of both) * n) ≡ f
@@ -188,20 +191,20 @@ module _ (both : Bool) (n : ℕ) (m w : List ℕ) (x : List Float) where
 
     -- ---- the answer
 
-    pub tray_refused : {r : ℕ} → r ≡ number → (r ≡ 0 → ⊥) → (r, m, w, x) ≡ tray_into (kinds_of both) n samples s indices (m, w, x)
+    pub tray_refused : (e : Refusal) → refusals.number e ≡ number → (refusals.number e, m, w, x) ≡ tray_into (kinds_of both) n samples s indices (m, w, x)
     unfolding tray_into
-    tray_refused e h = rw (sym e, ne_eqb _ _ h)
+    tray_refused e q = rw (sym q, ne_eqb _ _ (some_number e))
 
-    pub tray_done : {r : ℕ} {m' w' : List ℕ} {x' : List Float} → r ≡ number → r ≡ 0
+    pub tray_done : {m' w' : List ℕ} {x' : List Float} → 0 ≡ number
         → (m' ≡ rows_of (tray_row message_of (kinds_of both) samples s indices) n) × (w' ≡ rows_of (tray_row result_of (kinds_of both) samples s indices) n)
         × (x' ≡ rows_of (tray_row numbers_of (kinds_of both) samples s indices) n)
-        → (r, m', w', x') ≡ tray_into (kinds_of both) n samples s indices (m, w, x)
+        → (0, m', w', x') ≡ tray_into (kinds_of both) n samples s indices (m, w, x)
     unfolding tray_into
-    tray_done e z q = rw (sym e, eq-eqb _ _ z, q.0, q.1, q.2, z)
+    tray_done e q = rw (sym e, q.0, q.1, q.2)
 
-    pub tray_none : {r : ℕ} → r ≡ number → r ≡ 0 → n ≡ 0 → (r, m, w, x) ≡ tray_into (kinds_of both) n samples s indices (m, w, x)
+    pub tray_none : 0 ≡ number → n ≡ 0 → (0, m, w, x) ≡ tray_into (kinds_of both) n samples s indices (m, w, x)
     unfolding rows_of
-    tray_none e z h =
-        let f = fitting e z in
-        tray_done e z
+    tray_none e h =
+        let f = fitting e in
+        tray_done e
         (rw h (nothing_there m (f.bytes ∙ rw (h, mul-zero (bytes_in (kinds_of both)))), nothing_there w (f.whole ∙ rw (h, mul-zero (words_in (kinds_of both)))), nothing_there x (f.pairs ∙ rw (h, mul-zero (floats_in (kinds_of both))))))

@@ -1,8 +1,10 @@
 -- One trial as the code makes it: what is found, and the header check of a message's first byte.
 --     lookup_missed    nothing is found: the trial fails
---     lookup_found     positions are found: the trial passes exactly if the header check says so
+--     lookup_passed, lookup_failed     positions are found: the trial passes exactly if the header check says so
 --     same_checked     a trial looks at no more of a message than its first byte
 -- Assumes nothing.
+use Rattle.std.specs.Prelude as code
+use Rattle.std.specs.Result.{result_unwrap_or}
 use mathlib.Core.Path.{◌≡◌, refl, sym, ap, ◌∙◌, subst}
 use mathlib.Core.Bool.{Bool, true, false, cond}
 use mathlib.Core.List.{List, [], ◌∷◌}
@@ -11,45 +13,32 @@ use native.Mathlib.Omega.{arith}
 use borrow.Author.Tests.{eq-eqb, ne_eqb}
 use lib.Dec.{eqb}
 use lib.ListN.{length, get_or}
-use Rattle.lists.specs.Told.{done}
-use Rattle.lists.proofs.Telling.{same_values, not_done}
 use Rattle.annex10.specs.Repair.{count, inside, repaired_head}
 use Rattle.annex10.specs.Any.{only}
 use Rattle.annex10.specs.declared.Repairs.{Repairs}
 use Rattle.annex10.specs.declared.Found.{Found}
 use Rattle.annex10.specs.declared.Found.TheVariants.{At, Nothing}
 use Rattle.annex10.proofs.Repairing.{not_there, head_is}
-use Rattle.mode_s.specs.declared.header.Validity.{Validity}
-use Rattle.mode_s.specs.declared.header.Validity.TheVariants.{Valid, Invalid, Refused}
-use Rattle.mode_s.specs.Header.{validity_told, header_of}
+use Rattle.refusals.specs.declared.Refusal.{Refusal}
+use Rattle.refusals.specs.Refusals.{told}
+use Rattle.mode_s.specs.Header.{header_of}
 use Rattle.place.specs.declared.Place.{Place}
 use Rattle.place.specs.declared.Slicer.{Slicer}
 use Rattle.place.specs.declared.location.Location.{Location}
-use Rattle.search.specs.declared.Tried.{Tried}
 use Rattle.search.specs.declared.Tried.TheVariants.{Pass, Fail}
 use Rattle.search.specs.Kinds.{Kind}
 use Rattle.search.specs.Trials.{checked}
 use Rattle.receiver.specs.Inner.{found_inside}
+use Rattle.receiver.proofs.Never.{unwrapped}
 
--- what a trial makes of a header check
-abbrev pub pass_if : Validity → Location → Tried
-pass_if Valid r = Pass r
-pass_if Invalid r = Fail
-pass_if (Refused n) r = Fail
-
-passed : (v : Validity) (r : Location) {b : Bool} → validity_told v ≡ done b → pass_if v r ≡ cond b (Pass r) Fail
-passed Valid r e = rw (← same_values e)
-passed Invalid r e = rw (← same_values e)
-passed (Refused n) r e = absurd (not_done e)
-
--- the check of a message's first byte is the check of the repaired message
-checked_head : (k : Kind) (p : Place) (m : List ℕ) (number : ℕ) (slicer : Slicer) (ρ : Repairs) (v : Validity) → 0 < length m → inside k.bytes ρ ≡ true
-    → validity_told v ≡ header_of k.bytes k.header (get_or m 0 0) ρ
-    → pass_if v (record { place = p; trial = number; slicer = slicer; repairs = ρ }) ≡ checked k p number slicer m (At ρ)
+-- the check of a message's first byte is the check of the repaired message, which lies where the positions do
+checked_head : (k : Kind) (p : Place) (m : List ℕ) (number : ℕ) (slicer : Slicer) (ρ : Repairs) (v : code.Result Bool Refusal) {b : Bool} → 0 < length m
+    → inside k.bytes ρ ≡ true → told v ≡ header_of k.bytes k.header (get_or m 0 0) ρ → b ≡ result_unwrap_or v false
+    → cond b (Pass (record { place = p; trial = number; slicer = slicer; repairs = ρ })) Fail ≡ checked k p number slicer m (At ρ)
 unfolding header_of checked
-checked_head k p m number slicer ρ v h e g =
+checked_head k p m number slicer ρ v h e g f =
     let r : Location = record { place = p; trial = number; slicer = slicer; repairs = ρ } in
-    passed v r (rw e at g) ∙ ap (λ (b : ℕ). cond (k.header b) (Pass r) Fail) (sym (head_is m ρ h))
+    ap (λ (b : Bool). cond b (Pass r) Fail) (unwrapped v false f (rw e at g)) ∙ ap (λ (b : ℕ). cond (k.header b) (Pass r) Fail) (sym (head_is m ρ h))
 
 -- no more is looked at
 pub same_checked : (k : Kind) (p : Place) (m : List ℕ) (number : ℕ) (slicer : Slicer) (f : Found) {byte : ℕ} → 0 < length m → byte ≡ get_or m 0 0
@@ -81,8 +70,17 @@ module _ (k : Kind) (p : Place) (number : ℕ) (slicer : Slicer) (byte n : ℕ) 
   unfolding checked
   lookup_missed z = rw (← e, z)
 
-  pub lookup_found : {ρ : Repairs} (v : Validity) → found_inside k o ≡ true → f ≡ At ρ → validity_told v ≡ header_of k.bytes k.header byte ρ
-      → pass_if v (record { place = p; trial = number; slicer = slicer; repairs = ρ }) ≡ checked k p number slicer (byte ∷ []) (only o n)
-  lookup_found {ρ} v i z g =
+  lookup_found : {ρ : Repairs} (v : code.Result Bool Refusal) {b : Bool} → found_inside k o ≡ true → f ≡ At ρ → told v ≡ header_of k.bytes k.header byte ρ
+      → b ≡ result_unwrap_or v false
+      → cond b (Pass (record { place = p; trial = number; slicer = slicer; repairs = ρ })) Fail ≡ checked k p number slicer (byte ∷ []) (only o n)
+  lookup_found {ρ} v i z g t =
       let q : only o n ≡ At ρ = sym e ∙ z in
-      rw q (checked_head k p (byte ∷ []) number slicer ρ v (omega arith) (only_inside k o n i q) g)
+      rw q (checked_head k p (byte ∷ []) number slicer ρ v (omega arith) (only_inside k o n i q) g t)
+
+  pub lookup_passed : {ρ : Repairs} (v : code.Result Bool Refusal) {b : Bool} → found_inside k o ≡ true → f ≡ At ρ → told v ≡ header_of k.bytes k.header byte ρ
+      → b ≡ result_unwrap_or v false → b ≡ true → Pass (record { place = p; trial = number; slicer = slicer; repairs = ρ }) ≡ checked k p number slicer (byte ∷ []) (only o n)
+  lookup_passed v i z g t h = rw h at (lookup_found v i z g t)
+
+  pub lookup_failed : {ρ : Repairs} (v : code.Result Bool Refusal) {b : Bool} → found_inside k o ≡ true → f ≡ At ρ → told v ≡ header_of k.bytes k.header byte ρ
+      → b ≡ result_unwrap_or v false → b ≡ false → Fail ≡ checked k p number slicer (byte ∷ []) (only o n)
+  lookup_failed v i z g t h = rw h at (lookup_found v i z g t)

@@ -1,6 +1,5 @@
 -- The surviving reading of a place, step by step as the code finds it.
 --     candidate_is              a reading with its message, power and cn0
---     kept, gone                what the filter leaves
 --     few_kept, coherent_kept   what is not dropped whatever the distance: fewer than two repairs; or dropped all the same
 --     survived                  what survives of a trial that passed
 --     filter_is                 the filter, for settings that are taken
@@ -8,6 +7,7 @@
 --     reading_at_law, reading_taken, reading_few    what a reading is
 --     read_pass, read_fail      what survives of the trials
 -- Assumes nothing.
+use Rattle.std.specs.Prelude as code
 use mathlib.Core.Path.{◌≡◌, refl, ap, ◌∙◌}
 use mathlib.Core.Bool.{Bool, true, false, ◌&&◌, cond}
 use mathlib.Core.List.{List}
@@ -21,8 +21,7 @@ use borrow.Author.Tests.{leb-true, eq-eqb, ne_eqb}
 use lib.Dec.{leb, eqb}
 use lib.Ieee.{Float}
 use lib.Ieee.Scale.{finite}
-use Rattle.lists.specs.Told.{done, refused}
-use Rattle.lists.proofs.Telling.{same_values, not_done}
+use Rattle.lists.specs.Told.{done}
 use Rattle.annex10.specs.Repair.{count, repaired}
 use Rattle.place.specs.declared.Place.{Place}
 use Rattle.place.specs.declared.Slicer.{Slicer}
@@ -40,12 +39,11 @@ use Rattle.search.specs.declared.Settings.{Settings}
 use Rattle.search.specs.declared.Tried.{Tried}
 use Rattle.search.specs.declared.Tried.TheVariants as T
 use Rattle.search.specs.declared.Candidate.{Candidate}
-use Rattle.search.specs.declared.Survivor.{Survivor}
 use Rattle.search.specs.Trials.{reading}
 use Rattle.search.specs.Window.{Window}
 use Rattle.search.specs.Choice.{candidate, dropped, survivor, candidate_at}
-use Rattle.search.specs.Kinds.{Kind, long}
-use Rattle.search.specs.Answers.{settings_number, survivor_of}
+use Rattle.search.specs.Kinds.{Kind}
+use Rattle.search.specs.Answers.{settings_number}
 use Rattle.search.proofs.Passing.{sound}
 use Rattle.search.proofs.Locating.{sited_taken, read_sited}
 use Rattle.choice.specs.Filtered.{filtered_of}
@@ -68,19 +66,9 @@ most_level level most = omega (arith, min-le_left most level, min_comm level mos
 
 -- ---- the filter
 
-pub filter_is : (s : Settings) (n : ℕ) (c : Candidate) {b : Bool} → settings_number s ≡ 0 → location_number 14 c.location ≡ 0 → done b ≡ filtered_of s n c → b ≡ dropped s n c
+pub filter_is : (s : Settings) (n : ℕ) (c : Candidate) → settings_number s ≡ 0 → location_number 14 c.location ≡ 0 → filtered_of s n c ≡ done (dropped s n c)
 unfolding filtered_of
-filter_is s n c z y e = same_values (rw (z, y) at e)
-
-pub filter_never : (s : Settings) (n : ℕ) (c : Candidate) {k : ℕ} → settings_number s ≡ 0 → location_number 14 c.location ≡ 0 → refused k ≡ filtered_of s n c → ⊥
-unfolding filtered_of
-filter_never s n c z y e = not_done (rw (z, y) at e)
-
-pub kept : (c : Candidate) {b : Bool} → b ≡ false → record { number = 0; candidate = c } ≡ survivor_of long (cond b none (some c))
-kept c e = rw e
-
-pub gone : (c : Candidate) {b : Bool} {r : Survivor} → b ≡ true → r ≡ survivor_of long none → r ≡ survivor_of long (cond b none (some c))
-gone c e f = rw e f
+filter_is s n c z y = rw (z, y)
 
 few_kept : (s : Settings) (m n : ℕ) (c : Candidate) → count c.location.repairs ≢ 2 → dropped s m c ≡ dropped s n c
 unfolding dropped
@@ -98,7 +86,7 @@ still_named Coherent false a b = refl
 still_named Noncoherent two a b = refl
 
 -- the room of a message plays no part
-wide_kept : (k : Kind) (b : Bool) (c : Candidate) → survivor_of long (cond b none (some (wide k c))) ≡ held_of k (cond b none (some c))
+wide_kept : (k : Kind) (b : Bool) (c : Candidate) → cond b code.None (code.Some (wide k c)) ≡ held_of k (cond b none (some c))
 wide_kept k true c = refl
 wide_kept k false c = refl
 
@@ -149,14 +137,14 @@ module _ (k : Kind) (w : Right k) (samples row : List Float) (coherent noncohere
       go Noncoherent q = refl
 
   -- ---- what survives of a trial that passed
-  pub survived : (s : Settings) (l : Location) {a : Candidate} {x : Survivor} → (count l.repairs ≡ 2 → apart coherent noncoherent l ≡ there.distance l.place)
+  pub survived : (s : Settings) (l : Location) {a : Candidate} {x : code.Option Candidate} → (count l.repairs ≡ 2 → apart coherent noncoherent l ≡ there.distance l.place)
       → a ≡ wide k (candidate (seen_at k samples row (compared l) (named l)) l)
-      → x ≡ survivor_of long (cond (dropped s (apart (compared l) (named l) a.location) a) none (some a)) → x ≡ held_of k (survivor s there (T.Pass l))
+      → x ≡ cond (dropped s (apart (compared l) (named l) a.location) a) code.None (code.Some a) → x ≡ held_of k (survivor s there (T.Pass l))
   unfolding survivor candidate
   survived s l {a} d ea ex =
       let e : a ≡ wide k (candidate there l) = ea ∙ ap (wide k) (named_candidate l) in
       let same : a.location ≡ l = ap (λ (c : Candidate). c.location) ea in
-      ex ∙ ap (λ (y : Location). survivor_of long (cond (dropped s (apart (compared l) (named l) y) a) none (some a))) same
+      ex ∙ ap (λ (y : Location). cond (dropped s (apart (compared l) (named l) y) a) code.None (code.Some a)) same
       ∙ rw (e, there_dropped) (wide_kept k (dropped s (there.distance l.place) (candidate there l)) (candidate there l))
     where
       there_dropped : dropped s (apart (compared l) (named l) l) (wide k (candidate there l)) ≡ dropped s (there.distance l.place) (candidate there l)
@@ -187,10 +175,10 @@ module _ (k : Kind) (w : Right k) (samples row : List Float) (coherent noncohere
       abbrev level : ℕ
       level = min s.level k.most
 
-      pub read_pass : {l : Location} {x : Survivor} → read level ≡ T.Pass l → x ≡ held_of k (survivor s there (T.Pass l)) → x ≡ held_of k (candidate_at k s there p)
+      pub read_pass : {l : Location} {x : code.Option Candidate} → read level ≡ T.Pass l → x ≡ held_of k (survivor s there (T.Pass l)) → x ≡ held_of k (candidate_at k s there p)
       unfolding candidate_at seen_at
       read_pass e ex = rw e ex
 
-      pub read_fail : {x : Survivor} → read level ≡ T.Fail → x ≡ survivor_of long none → x ≡ held_of k (candidate_at k s there p)
+      pub read_fail : read level ≡ T.Fail → code.None ≡ held_of k (candidate_at k s there p)
       unfolding candidate_at survivor seen_at
-      read_fail e ex = rw e ex
+      read_fail e = rw e

@@ -5,6 +5,7 @@
 --     held_long, answer_long         a long message fills it
 --     held_short, answer_short       of a short one the first seven bytes are taken
 -- Assumes nothing.
+use Rattle.std.specs.Prelude as code
 use mathlib.Core.Path.{◌≡◌, refl, sym, ap, ◌∙◌, subst}
 use mathlib.Core.List.{List, ◌++◌, append-nil}
 use mathlib.Core.Option.{Option, none, some}
@@ -15,16 +16,17 @@ use lib.Ieee.{Float}
 use Rattle.annex10.specs.Repair.{repaired}
 use Rattle.annex10.specs.declared.Repairs.{Repairs}
 use Rattle.annex10.proofs.Repairing.{length_repaired}
-use Rattle.mode_s.specs.declared.message.MessageKind.{MessageKind}
-use Rattle.mode_s.specs.declared.message.MessageKind.TheVariants.{Short, Long}
+use Rattle.annex10.specs.declared.MessageKind.{MessageKind}
+use Rattle.annex10.specs.declared.MessageKind.TheVariants.{Short, Long}
 use Rattle.streams.specs.Streams.{message_at}
 use Rattle.streams.proofs.Reading.{message_length_law}
 use Rattle.kernels.specs.Symbols.{symbols_of}
 use Rattle.search.specs.declared.Candidate.{Candidate}
-use Rattle.search.specs.declared.Survivor.{Survivor}
 use Rattle.search.specs.Kinds.{Kind, long, short}
-use Rattle.search.specs.Answers.{survivor_of, refused_answer, answer_of, answered, no_candidate}
-use Rattle.receiver.specs.Inner.{kind_of, padded, wide, held_of, cut_survivor, cut_answer, arrival_in, answer_in}
+use Rattle.search.specs.Answers.{survivor_of, refused_answer, answer_of, answered}
+use Rattle.search.specs.Short.{short_survivor}
+use Rattle.search.specs.Told.{survivor_told, short_survivor_told}
+use Rattle.receiver.specs.Inner.{kind_of, padded, wide, held_of, cut_held, cut_answer, arrival_in, answer_in}
 use Rattle.receiver.proofs.Prompting.{timing_seen}
 
 pub unpadded : (k : Kind) (m : List ℕ) → length m ≡ k.bytes → take k.bytes (padded k m) ≡ m
@@ -68,23 +70,15 @@ pub record Fit (k : Kind) (o : Option Candidate) : Type 0 where
 
 -- ---- what is found
 
-pub held_long : (o : Option Candidate) {x : Survivor} → x ≡ held_of long o → x ≡ survivor_of long o
-held_long none e = e
-held_long (some c) e = e ∙ rw (padded_long c.message)
+pub held_long : (o : Option Candidate) {x : code.Option Candidate} → x ≡ held_of long o → survivor_told (code.Ok x) ≡ survivor_of long o
+held_long none e = rw e
+held_long (some c) e = rw (e, padded_long c.message)
 
-no_short : cut_survivor (survivor_of long none) ≡ survivor_of short none
-unfolding long short
-no_short = refl
-
-pub held_short : (o : Option Candidate) {x : Survivor} → Fit short o → x ≡ held_of short o → cut_survivor x ≡ survivor_of short o
-held_short none w e = ap cut_survivor e ∙ no_short
-held_short (some c) w e = ap cut_survivor e ∙ rw (cut_padded c.message (w.size c refl))
+pub held_short : (o : Option Candidate) {x : code.Option Candidate} → Fit short o → x ≡ held_of short o → short_survivor_told (code.Ok (cut_held x)) ≡ short_survivor (survivor_of short o)
+held_short none w e = rw e
+held_short (some c) w e = rw (e, cut_padded c.message (w.size c refl))
 
 -- refusals
-pub unread_short : (n : ℕ) → cut_survivor (record { number = n; candidate = no_candidate long }) ≡ record { number = n; candidate = no_candidate short }
-unfolding long short
-unread_short n = refl
-
 pub refused_short : (n : ℕ) → cut_answer (refused_answer long n) ≡ refused_answer short n
 unfolding long short
 refused_short n = refl
@@ -93,22 +87,22 @@ refused_short n = refl
 
 -- with its time, and the message in its room
 timed : (k : Kind) (samples : List Float) (index : ℕ) (c : Candidate) → length c.message ≡ k.bytes
-    → answer_in k (symbols_of samples) index (survivor_of long (some (wide k c)))
+    → answer_in k (symbols_of samples) index (code.Some (wide k c))
     ≡ (let a = answer_of k samples index c in record { number = 0; location = a.location; message = padded k c.message; cn0 = a.cn0; index = a.index; fraction = a.fraction; undecided = a.undecided })
 unfolding answer_in answer_of arrival_in
 timed k samples index c e = rw (unpadded k c.message e, timing_seen k samples c.message c.location)
 
-pub answer_long : (samples : List Float) (index : ℕ) (o : Option Candidate) {x : Survivor} → Fit long o → x ≡ held_of long o
+pub answer_long : (samples : List Float) (index : ℕ) (o : Option Candidate) {x : code.Option Candidate} → Fit long o → x ≡ held_of long o
     → answer_in long (symbols_of samples) index x ≡ answered long samples index o
 unfolding answer_in answer_of
 answer_long samples index none w e = rw e
 answer_long samples index (some c) w e =
     ap (answer_in long (symbols_of samples) index) e ∙ timed long samples index c (w.size c refl) ∙ rw (padded_long c.message)
 
-pub answer_short : (samples : List Float) (index : ℕ) (o : Option Candidate) {x : Survivor} → Fit short o → x ≡ held_of short o
+pub answer_short : (samples : List Float) (index : ℕ) (o : Option Candidate) {x : code.Option Candidate} → Fit short o → x ≡ held_of short o
     → cut_answer (answer_in short (symbols_of samples) index x) ≡ answered short samples index o
 unfolding answer_in answer_of
 answer_short samples index none w e = rw e (refused_short 1)
 answer_short samples index (some c) w e =
-    ap (λ (y : Survivor). cut_answer (answer_in short (symbols_of samples) index y)) e
+    ap (λ (y : code.Option Candidate). cut_answer (answer_in short (symbols_of samples) index y)) e
     ∙ ap cut_answer (timed short samples index c (w.size c refl)) ∙ rw (cut_padded c.message (w.size c refl))

@@ -1,6 +1,7 @@
 -- What private functions compute: no public contract cites it.
 -- Assumes nothing.
 use Rattle.std.specs.Prelude.{◌≡◌, Bool, true, not, ◌&&◌, ◌||◌, cond, ℕ, ◌+◌, ◌-◌, ◌*◌, ◌/◌, ◌%◌, ◌<◌, ◌≤◌, eqb, leb, length, get_or, take, drop, replicate, Float}
+use Rattle.std.specs.Prelude as code
 use mathlib.Core.List.{List, [], ◌++◌, foldl}
 use Rattle.std.proofs.Math.Option.{Option, none, some}
 use Rattle.std.specs.Float.Ieee.{lt}
@@ -11,8 +12,8 @@ use Rattle.annex10.specs.declared.Repairs.{Repairs}
 use Rattle.annex10.specs.declared.Repairs.TheVariants.{None, One, Two}
 use Rattle.annex10.specs.declared.Found.{Found}
 use Rattle.annex10.specs.declared.Found.TheVariants.{At, Nothing}
-use Rattle.mode_s.specs.declared.message.MessageKind.{MessageKind}
-use Rattle.mode_s.specs.declared.message.MessageKind.TheVariants.{Short, Long}
+use Rattle.annex10.specs.declared.MessageKind.{MessageKind}
+use Rattle.annex10.specs.declared.MessageKind.TheVariants.{Short, Long}
 use Rattle.place.specs.declared.Place.{Place}
 use Rattle.place.specs.declared.Slicer.TheVariants.{Coherent, Noncoherent}
 use Rattle.place.specs.declared.location.Location.{Location}
@@ -39,25 +40,23 @@ use Rattle.timing.specs.Subsample.{fraction_of, timing_of}
 use Rattle.search.specs.declared.Tried.{Tried}
 use Rattle.search.specs.declared.Tried.TheVariants.{Pass, Fail}
 use Rattle.search.specs.declared.Candidate.{Candidate}
-use Rattle.search.specs.declared.Survivor.{Survivor}
 use Rattle.search.specs.declared.Arrival.{Arrival}
 use Rattle.search.specs.declared.Answer.{Answer}
 use Rattle.search.specs.Kinds.{Kind, long, short}
 use Rattle.search.specs.Window.{Window}
-use Rattle.search.specs.Choice.{beats, better}
+use Rattle.search.specs.Seen.{seen}
+use Rattle.search.specs.declared.Settings.{Settings}
+use Rattle.search.specs.Choice.{beats, better, best}
 use Rattle.search.specs.When.{timing_at, index_of}
-use Rattle.search.specs.Answers.{survivor_of, refused_answer}
+use Rattle.search.specs.declared.ShortCandidate.{ShortCandidate}
+use Rattle.search.specs.Short.{short_candidate}
+use Rattle.search.specs.Answers.{refused_answer}
 
 -- ---- the kind, by its name in the code
 
 abbrev pub kind_of : MessageKind → Kind
 kind_of Long = long
 kind_of Short = short
-
--- the bit of a message that every header of its kind has set: formats 17 and 18 the first, format 11 the second
-abbrev pub lead_of : MessageKind → ℕ
-lead_of Long = 0
-lead_of Short = 1
 
 -- ---- room for 14 bytes
 
@@ -75,26 +74,29 @@ wide k c =
       undecided = c.undecided;
     }
 
--- what is found, with such a message
-abbrev pub held_of : Kind → Option Candidate → Survivor
-held_of k none = survivor_of long none
-held_of k (some c) = survivor_of long (some (wide k c))
+-- what is found, with such a message, as the code holds it
+abbrev pub held_of : Kind → Option Candidate → code.Option Candidate
+held_of k none = code.None
+held_of k (some c) = code.Some (wide k c)
+
+-- the best of all places
+abbrev pub held_best : Kind → List Float → Settings → code.Option Candidate
+held_best k samples s = held_of k (best k s (seen k samples))
 
 -- the first seven bytes of it
-abbrev pub cut_survivor : Survivor → Survivor
-cut_survivor x =
-    let c = x.candidate in
+abbrev pub cut_candidate : Candidate → Candidate
+cut_candidate c =
     record {
-      number = x.number;
-      candidate =
-          record {
-            location = c.location;
-            message = take 7 c.message;
-            prompt = c.prompt;
-            cn0 = c.cn0;
-            undecided = c.undecided;
-          };
+      location = c.location;
+      message = take 7 c.message;
+      prompt = c.prompt;
+      cn0 = c.cn0;
+      undecided = c.undecided;
     }
+
+abbrev pub cut_held : code.Option Candidate → code.Option ShortCandidate
+cut_held code.None = code.None
+cut_held (code.Some c) = code.Some (short_candidate (cut_candidate c))
 
 abbrev pub cut_answer : Answer → Answer
 cut_answer a =
@@ -118,7 +120,6 @@ power_in k symbols p message = power_of k.bytes (symbols_at k.bytes (take 576 (d
 unfoldable pub around_in : Kind → List Float → List ℕ → ℕ → Around
 around_in k symbols message s =
     record {
-      number = 0;
       earliest = power_in k symbols (starting_at (s - 2)) message;
       earlier = power_in k symbols (starting_at (s - 1)) message;
       later = power_in k symbols (starting_at (s + 1)) message;
@@ -146,20 +147,19 @@ pub record Searched (k : Kind) (l : Location) : Type 0 where
 unfoldable pub arrival_in : Kind → List Float → Location → List ℕ → ℕ → Arrival
 arrival_in k symbols l message index =
     let t = timing_at (seen_in k symbols) message l in
-    record { number = 0; index = index_of index (sample_start l.place) t.moves; fraction = t.fraction }
+    record { index = index_of index (sample_start l.place) t.moves; fraction = t.fraction }
 
 -- what is found is a location that is searched, and has its power there
-pub record Weighed (k : Kind) (symbols : List Float) (x : Survivor) : Type 0 where
-  pub at : x.number ≡ 0 → Searched k x.candidate.location
-  pub power : x.number ≡ 0 → x.candidate.prompt ≡ power_in k symbols x.candidate.location.place (take k.bytes x.candidate.message)
+pub record Weighed (k : Kind) (symbols : List Float) (x : code.Option Candidate) : Type 0 where
+  pub at : (c : Candidate) → x ≡ code.Some c → Searched k c.location
+  pub power : (c : Candidate) → x ≡ code.Some c → c.prompt ≡ power_in k symbols c.location.place (take k.bytes c.message)
 
 -- what is found, with its time
-unfoldable pub answer_in : Kind → List Float → ℕ → Survivor → Answer
-answer_in k symbols index x =
-    let c = x.candidate in
+unfoldable pub answer_in : Kind → List Float → ℕ → code.Option Candidate → Answer
+answer_in k symbols index code.None = refused_answer long 1
+answer_in k symbols index (code.Some c) =
     let t = arrival_in k symbols c.location (take k.bytes c.message) index in
-    cond (eqb x.number 0)
-    (record {
+    record {
       number = 0;
       location = c.location;
       message = c.message;
@@ -167,8 +167,7 @@ answer_in k symbols index x =
       index = t.index;
       fraction = t.fraction;
       undecided = c.undecided;
-    })
-    (refused_answer long 1)
+    }
 
 -- ---- the search
 
@@ -185,13 +184,15 @@ pub record Ready (k : Kind) (samples symbols : List Float) (coherent noncoherent
   pub scanned : Scanned k samples coherent noncoherent crcs others
   pub sums : symbols ≡ symbols_of samples
 
--- a newcomer takes over only if it is a candidate and the holder is none or is beaten; a number 0 is a candidate, any other is nothing
-unfoldable pub takes_over : Survivor → Survivor → Bool
-takes_over held new = eqb new.number 0 && (not (eqb held.number 0) || beats new.candidate held.candidate)
+-- a newcomer takes over if there is no holder or it beats the holder
+abbrev pub takes_over : code.Option Candidate → Candidate → Bool
+takes_over code.None new = true
+takes_over (code.Some held) new = beats new held
 
 -- what is held then
-unfoldable pub chosen_survivor : Survivor → Survivor → Survivor
-chosen_survivor held new = cond (takes_over held new) new held
+abbrev pub chosen_of : code.Option Candidate → code.Option Candidate → code.Option Candidate
+chosen_of held code.None = held
+chosen_of held (code.Some new) = cond (takes_over held new) (code.Some new) held
 
 -- the best of some places, given by their numbers, held on from h
 unfoldable pub over : (Place → Option Candidate) → (ℕ → Place) → Option Candidate → List ℕ → Option Candidate
@@ -272,21 +273,20 @@ seen_at k samples row coherent noncoherent =
     }
 
 -- what is read, with its undecided bits counted from the symbols of all clock phases
-abbrev pub counted_in : Kind → List Float → Survivor → Survivor
-counted_in k symbols x =
-    let c = x.candidate in
+abbrev pub counted_in : Kind → List Float → Candidate → Candidate
+counted_in k symbols c =
     let p = c.location.place in
     record {
-      number = x.number;
-      candidate =
-          record {
-            location = c.location;
-            message = c.message;
-            prompt = c.prompt;
-            cn0 = c.cn0;
-            undecided = undecided_in c.location.slicer (symbols_at k.bytes (take 576 (drop (576 * p.phase) symbols)) p) (8 * k.bytes);
-          };
+      location = c.location;
+      message = c.message;
+      prompt = c.prompt;
+      cn0 = c.cn0;
+      undecided = undecided_in c.location.slicer (symbols_at k.bytes (take 576 (drop (576 * p.phase) symbols)) p) (8 * k.bytes);
     }
+
+abbrev pub counted_held : Kind → List Float → code.Option Candidate → code.Option Candidate
+counted_held k symbols code.None = code.None
+counted_held k symbols (code.Some c) = code.Some (counted_in k symbols c)
 
 -- a trial counts only where none before it passed
 unfoldable pub or_try : Tried → Tried → Tried

@@ -1,2 +1,3 @@
 pub mod Tries
 pub mod Inner
+pub mod InnerSearches

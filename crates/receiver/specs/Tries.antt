@@ -1,19 +1,13 @@
 -- What `try_decode` answers.
 -- Assumes nothing.
 use Rattle.std.specs.Prelude.{cond, List, ℕ, leb, eqb, length}
-use Rattle.lists.specs.Told.{Told, done, refused, tell}
+use Rattle.lists.specs.Told.{Told, tell}
 use Rattle.place.specs.declared.Place.{Place}
 use Rattle.place.specs.All.{listed}
 use Rattle.streams.specs.Streams.{message_at}
 use Rattle.search.specs.declared.Tried.{Tried}
 use Rattle.search.specs.Kinds.{long}
 use Rattle.search.specs.Trials.{reading}
-use Rattle.receiver.specs.declared.trials.Attempt.{Attempt}
-use Rattle.receiver.specs.declared.trials.Attempt.TheVariants.{Is, Refused}
-
-abbrev pub attempt_told : Attempt → Told Tried
-attempt_told (Is t) = done t
-attempt_told (Refused n) = refused n
 
 -- a stream has 18 bytes, else 2; the level is 0, 1 or 2, else 4; the place is one of those that are searched, else 7
 unfoldable pub try_number : ℕ → List ℕ → List ℕ → Place → ℕ

@@ -13,21 +13,21 @@ fn bit_errors_of(code: u32) -> Found
     }
     let first = (code >> 8) as u8;
     let second = (code & 0xff) as u8;
-    if first == 255 {
-        return Found::At(Repairs::None);
-    }
-    if second == 255 {
-        return Found::At(Repairs::One(first));
-    }
-    Found::At(Repairs::Two(first, second))
+    Found::At(match (first, second) {
+        (255, _) => Repairs::None,
+        (_, 255) => Repairs::One(first),
+        _ => Repairs::Two(first, second),
+    })
 }
 
 // A remainder of 0 needs no code.
+#[tactic(auto, unfolding(crate::specs::Inner::found_by))]
 pub fn bit_errors_by(crc: u32, code: u32) -> Found
     ensures { result ≡ found_by crc code }
 {
     if crc == 0 {
-        return Found::At(Repairs::None);
+        Found::At(Repairs::None)
+    } else {
+        bit_errors_of(code)
     }
-    bit_errors_of(code)
 }

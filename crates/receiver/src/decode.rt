@@ -3,94 +3,98 @@ ghost use Rattle.std.specs.Prelude.{◌≡◌, length};
 ghost use Rattle.search.specs.Kinds.{long, short};
 ghost use Rattle.search.specs.Answers.{read_at, best_of, arrival_at, decode_of};
 ghost use Rattle.search.specs.Short.{short_survivor, short_answer};
+ghost use Rattle.search.specs.Told.{survivor_told, short_survivor_told};
+ghost use Rattle.refusals.specs.Refusals.{told};
 ghost use Rattle.receiver.specs.Inner.{kind_of};
 
 use crate::answer::{answer_of, both_in, decode_in, refused, time_in};
-use crate::candidate::unread;
-use crate::narrow::{narrow_answer, narrow_survivor};
-use crate::refusals::{best_number, decode_number, read_number, time_number};
+use crate::checks::{check_best, check_decode, check_read, check_time};
+use crate::lent::Hash;
+use crate::narrow::{narrow_answer, narrow_held};
 use crate::subsample::power_at;
 use crate::window::{best_of, best_of_short, reading_at, reading_at_short};
+use annex10::MessageKind;
 use kernels::symbols::accumulate_symbols;
-use mode_s::message::MessageKind;
 use place::Place;
 use place::location::Location;
-use search::{Answer, Arrival, BothAnswers, Settings, ShortAnswer, ShortSurvivor, Survivor};
+use refusals::Refusal;
+use search::{Answer, Arrival, BothAnswers, Candidate, Settings, ShortAnswer, ShortCandidate};
 
-// The surviving reading of one of the 248 places. Refused: 2, 4, 5, 7; number 1 where there is none.
-pub fn read_place(samples: &[f32], s: Settings, place: Place) -> Survivor
-    ensures { result ≡ read_at long samples.now s place }
+// The surviving reading of one of the 248 places, where there is one. Refused: 2, 4, 5, 7.
+#[tactic(auto, using(crate::proofs::Deciding::read_refused))]
+pub fn read_place(samples: &[f32], s: Settings, place: Place) -> Result<Option<Candidate>, Refusal>
+    ensures { survivor_told result ≡ read_at long samples.now s place }
 {
-    let number = read_number(MessageKind::Long, samples, s, place);
-    if number != 0 {
-        return unread(number);
-    }
-    reading_at(samples, s, place)
+    check_read(MessageKind::Long, samples, s, place)?;
+    Ok(reading_at(samples, s, place))
 }
 
 // Of one of the 696 places of short messages.
-pub fn read_place_short(samples: &[f32], s: Settings, place: Place) -> ShortSurvivor
-    ensures { result ≡ short_survivor (read_at short samples.now s place) }
+#[tactic(auto, using(crate::proofs::Deciding::short_read_refused))]
+pub fn read_place_short(
+    samples: &[f32],
+    s: Settings,
+    place: Place,
+) -> Result<Option<ShortCandidate>, Refusal>
+    ensures { short_survivor_told result ≡ short_survivor (read_at short samples.now s place) }
 {
-    let number = read_number(MessageKind::Short, samples, s, place);
-    if number != 0 {
-        return narrow_survivor(unread(number));
-    }
-    narrow_survivor(reading_at_short(samples, s, place))
+    check_read(MessageKind::Short, samples, s, place)?;
+    Ok(narrow_held(reading_at_short(samples, s, place)))
 }
 
-// The best reading of all 248 places. Refused: 2, 4, 5; number 1 where there is none.
-pub fn find_best_decode_candidate(samples: &[f32], s: Settings) -> Survivor
-    ensures { result ≡ best_of long samples.now s }
+// The best reading of all 248 places, where there is one. Refused: 2, 4, 5.
+#[tactic(auto, using(crate::proofs::Deciding::best_refused))]
+pub fn find_best_decode_candidate(
+    samples: &[f32],
+    s: Settings,
+) -> Result<Option<Candidate>, Refusal>
+    ensures { survivor_told result ≡ best_of long samples.now s }
 {
-    let number = best_number(samples, s);
-    if number != 0 {
-        return unread(number);
-    }
-    let mut sums = [0.0f32; 2304];
-    best_of(samples, &mut sums, &[], &[], s)
+    check_best(samples, s)?;
+    let mut sums = [0.0; 2304];
+    Ok(best_of(samples, &mut sums, Hash::none(), s))
 }
 
 // Of all 696 places of short messages.
-pub fn find_best_decode_candidate_short(samples: &[f32], s: Settings) -> ShortSurvivor
-    ensures { result ≡ short_survivor (best_of short samples.now s) }
+#[tactic(auto, using(crate::proofs::Deciding::short_best_refused))]
+pub fn find_best_decode_candidate_short(
+    samples: &[f32],
+    s: Settings,
+) -> Result<Option<ShortCandidate>, Refusal>
+    ensures { short_survivor_told result ≡ short_survivor (best_of short samples.now s) }
 {
-    let number = best_number(samples, s);
-    if number != 0 {
-        return narrow_survivor(unread(number));
-    }
-    let mut sums = [0.0f32; 2304];
-    narrow_survivor(best_of_short(samples, &mut sums, s))
+    check_best(samples, s)?;
+    let mut sums = [0.0; 2304];
+    Ok(narrow_held(best_of_short(samples, &mut sums, s)))
 }
 
 // When a message at one of the places of its kind came.
+#[tactic(auto, using(crate::proofs::Deciding::time_refused))]
 fn time_at(
     kind: MessageKind,
     samples: &[f32],
     location: Location,
     message: &[u8],
     index: u64,
-) -> Arrival
+) -> Result<Arrival, Refusal>
     requires { length message.now ≡ (kind_of kind).bytes }
-    ensures { result ≡ arrival_at (kind_of kind) samples.now location message.now index }
+    ensures { told result ≡ arrival_at (kind_of kind) samples.now location message.now index }
 {
-    let number = time_number(kind, samples, location, index);
-    if number != 0 {
-        return Arrival {
-            number,
-            index: 0,
-            fraction: 0.0,
-        };
-    }
-    let mut symbols = [0.0f32; 2304];
-    accumulate_symbols(samples, &mut symbols);
+    check_time(kind, samples, location, index)?;
+    let mut symbols = [0.0; 2304];
+    let _ = accumulate_symbols(samples, &mut symbols);
     let power = power_at(kind, &symbols, location, message);
-    time_in(kind, &symbols, location, message, power, index)
+    Ok(time_in(kind, &symbols, location, message, power, index))
 }
 
 // When a message at one of the 248 places came. Refused: 2, 6; its location with 7, 8.
-pub fn time_message(samples: &[f32], location: Location, message: [u8; 14], index: u64) -> Arrival
-    ensures { result ≡ arrival_at long samples.now location message index }
+pub fn time_message(
+    samples: &[f32],
+    location: Location,
+    message: [u8; 14],
+    index: u64,
+) -> Result<Arrival, Refusal>
+    ensures { told result ≡ arrival_at long samples.now location message index }
 {
     time_at(MessageKind::Long, samples, location, &message, index)
 }
@@ -101,8 +105,8 @@ pub fn time_message_short(
     location: Location,
     message: [u8; 7],
     index: u64,
-) -> Arrival
-    ensures { result ≡ arrival_at short samples.now location message index }
+) -> Result<Arrival, Refusal>
+    ensures { told result ≡ arrival_at short samples.now location message index }
 {
     time_at(MessageKind::Short, samples, location, &message, index)
 }
@@ -111,19 +115,18 @@ pub fn time_message_short(
 pub fn decode(samples: &[f32], s: Settings, index: u64) -> Answer
     ensures { result ≡ decode_of long samples.now s index }
 {
-    let mut sums = [0.0f32; 2304];
-    decode_in(samples, &mut sums, &[], &[], s, index)
+    let mut sums = [0.0; 2304];
+    decode_in(samples, &mut sums, Hash::none(), s, index)
 }
 
 // The short message of a window. At most one bit is repaired, so the thresholds and the distance have no effect.
 pub fn decode_short(samples: &[f32], s: Settings, index: u64) -> ShortAnswer
     ensures { result ≡ short_answer (decode_of short samples.now s index) }
 {
-    let number = decode_number(samples, s, index);
-    if number != 0 {
-        return narrow_answer(refused(number));
+    if let Err(refusal) = check_decode(samples, s, index) {
+        return narrow_answer(refused(refusal.number()));
     }
-    let mut sums = [0.0f32; 2304];
+    let mut sums = [0.0; 2304];
     let read = best_of_short(samples, &mut sums, s);
     narrow_answer(answer_of(MessageKind::Short, &sums, read, index))
 }
@@ -131,13 +134,11 @@ pub fn decode_short(samples: &[f32], s: Settings, index: u64) -> ShortAnswer
 fn both(slowly: bool, samples: &[f32], s: Settings, index: u64) -> BothAnswers
     ensures { result ≡ record { long = decode_of long samples.now s index; short = short_answer (decode_of short samples.now s index) } }
 {
-    let mut sums = [0.0f32; 2304];
-    let both = both_in(slowly, samples, &mut sums, &[], &[], s, index);
-    let long = both.long;
-    let short = both.short;
+    let mut sums = [0.0; 2304];
+    let both = both_in(slowly, samples, &mut sums, Hash::none(), s, index);
     BothAnswers {
-        long,
-        short: narrow_answer(short),
+        long: both.long,
+        short: narrow_answer(both.short),
     }
 }
 

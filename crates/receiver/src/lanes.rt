@@ -13,8 +13,8 @@ pub fn lane_of(bits: &[u8], lane: usize) -> [u8; 18]
     requires { (length bits.now ≡ 1152) × (lane < 8) }
     ensures { result ≡ lane_bytes bits.now lane }
 {
-    let mut out = [0u8; 18];
-    find_stream(bits, lane, &mut out);
+    let mut out = [0; 18];
+    let _ = find_stream(bits, lane, &mut out);
     out
 }
 
@@ -23,8 +23,7 @@ pub fn named_lane(location: Location, coherent: &[u8], noncoherent: &[u8], lane:
     requires { (length coherent.now ≡ 1152) × (length noncoherent.now ≡ 1152) × (lane < 8) }
     ensures { result ≡ chosen location.slicer (lane_bytes coherent.now lane) (lane_bytes noncoherent.now lane) }
 {
-    let slicer = location.slicer;
-    match slicer {
+    match location.slicer {
         Slicer::Coherent => lane_of(coherent, lane),
         Slicer::Noncoherent => lane_of(noncoherent, lane),
     }
@@ -36,14 +35,9 @@ pub fn compared_lane(location: Location, named: [u8; 18], coherent: &[u8], lane:
     requires { (length coherent.now ≡ 1152) × (lane < 8) }
     ensures { result ≡ cond (eqb (count location.repairs) 2) (chosen location.slicer named (lane_bytes coherent.now lane)) named }
 {
-    let slicer = location.slicer;
-    let repairs = location.repairs;
-    if repairs_of(repairs) != 2 {
-        return named;
-    }
-    match slicer {
-        Slicer::Coherent => named,
-        Slicer::Noncoherent => lane_of(coherent, lane),
+    match location.slicer {
+        Slicer::Noncoherent if repairs_of(location.repairs) == 2 => lane_of(coherent, lane),
+        _ => named,
     }
 }
 
@@ -52,6 +46,5 @@ pub fn first_of(bits: &[u8], start: usize) -> u8
     requires { (length bits.now ≡ 1152) × (start < 1096) }
     ensures { result ≡ byte_from bits.now start }
 {
-    let first = find_first_byte(bits, start);
-    first.byte
+    find_first_byte(bits, start).unwrap_or(0)
 }

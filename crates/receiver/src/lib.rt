@@ -4,14 +4,16 @@
 mod answer;
 mod by_trial;
 mod candidate;
+mod checks;
 mod codes;
 pub mod decode;
 mod find;
 mod kinds;
 mod lanes;
+mod lent;
 mod message;
 mod narrow;
-mod refusals;
+mod phase;
 mod six;
 mod subsample;
 pub mod tray;

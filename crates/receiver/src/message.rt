@@ -9,7 +9,7 @@ ghost use Rattle.receiver.specs.Inner.{Streams, kind_of, padded};
 
 use mode_s::message::{MessageKind, ModeSMessage};
 use mode_s::repair::correct_message_bit_errors;
-use parts::{slicer_part, slicer_part_short};
+use parts::slicer_part;
 use place::location::Location;
 use streams::message::{message_from_part, message_from_part_short};
 
@@ -17,12 +17,9 @@ fn long_at<'a>(coherent: &'a [u8], noncoherent: &'a [u8], location: Location) ->
     requires { Streams long coherent.now noncoherent.now location.place.bit × (location_number 14 location ≡ 0) }
     ensures { result ≡ repaired (message_at (chosen location.slicer coherent.now noncoherent.now) 14 location.place.bit) location.repairs }
 {
-    let part = slicer_part(coherent, noncoherent, location);
-    let place = location.place;
-    let repairs = location.repairs;
-    let m = message_from_part(part, place.bit);
-    let mut bytes = m.bytes;
-    correct_message_bit_errors(&mut bytes, repairs);
+    let part = slicer_part(MessageKind::Long, coherent, noncoherent, location);
+    let mut bytes = message_from_part(part, location.place.bit).unwrap_or([0; 14]);
+    let _ = correct_message_bit_errors(&mut bytes, location.repairs);
     bytes
 }
 
@@ -30,12 +27,9 @@ fn short_at<'a>(coherent: &'a [u8], noncoherent: &'a [u8], location: Location) -
     requires { Streams short coherent.now noncoherent.now location.place.bit × (location_number 7 location ≡ 0) }
     ensures { result ≡ repaired (message_at (chosen location.slicer coherent.now noncoherent.now) 7 location.place.bit) location.repairs }
 {
-    let part = slicer_part_short(coherent, noncoherent, location);
-    let place = location.place;
-    let repairs = location.repairs;
-    let m = message_from_part_short(part, place.bit);
-    let mut bytes = m.bytes;
-    correct_message_bit_errors(&mut bytes, repairs);
+    let part = slicer_part(MessageKind::Short, coherent, noncoherent, location);
+    let mut bytes = message_from_part_short(part, location.place.bit).unwrap_or([0; 7]);
+    let _ = correct_message_bit_errors(&mut bytes, location.repairs);
     bytes
 }
 

@@ -1,23 +1,13 @@
 // The six trials at a place, where what clears the two messages is known.
-ghost use Rattle.std.specs.Prelude.{◌≡◌, true, ◌&&◌, [], ◌∷◌};
+ghost use Rattle.std.specs.Prelude.{◌≡◌, true, [], ◌∷◌};
 ghost use Rattle.annex10.specs.Any.{only};
 ghost use Rattle.search.specs.Trials.{first, six_trials};
 ghost use Rattle.receiver.specs.Inner.{kind_of, found_inside};
 
 use crate::trial::then_try;
-use annex10::Found;
-use mode_s::message::MessageKind;
+use annex10::{Found, MessageKind};
 use place::{Place, Slicer};
 use search::Tried;
-
-fn both(a: bool, b: bool) -> bool
-    ensures { result ≡ a && b }
-{
-    if a {
-        return b;
-    }
-    false
-}
 
 // The first of the six that passes. Of the two messages the first bytes are given; c and d are what clears them, apart whether their remainders
 // differ.
@@ -35,9 +25,9 @@ pub fn try_six(
     ensures { result ≡ first (six_trials (kind_of kind) level place (coherent ∷ []) (noncoherent ∷ []) (only c) (only d) apart) }
 {
     let three = level >= 1;
-    let four = both(three, apart);
+    let four = three && apart;
     let five = level >= 2;
-    let six = both(five, apart);
+    let six = five && apart;
     let t = then_try(
         kind,
         Tried::Fail,

@@ -1,14 +1,17 @@
 // A tray: up to 64 windows in one call. The hashes are written out once for all of them, and so is the memory for their sums.
 ghost use Rattle.std.specs.Prelude.{◌≡◌, true, false, ◌&&◌, ◌++◌, ◌+◌, ◌*◌, ◌<◌, ◌≤◌, eqb, length, get_or, take};
+ghost use Rattle.refusals.specs.Refusals.{told_number};
 ghost use Rattle.search.specs.Kinds.{long, short};
 ghost use Rattle.search.specs.Answers.{decode_of};
-ghost use Rattle.sieve.specs.Hash.{Hashed};
 ghost use Rattle.receiver.specs.Inner.{cut_answer};
+ghost use Rattle.receiver.specs.InnerSearches.{row_in};
 ghost use Rattle.rows.specs.Rows.{result_of, numbers_of, with_row, rows_of};
 ghost use Rattle.rows.specs.Tray.{kinds_of, window_at, message_of, tray_row, bytes_in, words_in, floats_in, room_in, tray_number, tray_into};
 
 use crate::answer::{BothIn, both_in, decode_in};
+use crate::lent::{Hash, Windows};
 use choice::settings::check_settings;
+use refusals::Refusal;
 use rows::put_result;
 use search::{Answer, Settings};
 use sieve::hash::write_hash;
@@ -24,13 +27,7 @@ fn have_lengths(
 ) -> bool
     ensures { result ≡ (eqb (length messages.now) bytes && (eqb (length words.now) whole && eqb (length floats.now) pairs)) }
 {
-    if messages.len() != bytes {
-        return false;
-    }
-    if words.len() != whole {
-        return false;
-    }
-    floats.len() == pairs
+    messages.len() == bytes && words.len() == whole && floats.len() == pairs
 }
 
 // There is room for n results.
@@ -39,13 +36,14 @@ fn have_room(both: bool, n: usize, messages: &[u8], words: &[u64], floats: &[f32
     ensures { result ≡ room_in (kinds_of both) n (messages.now, words.now, floats.now) }
 {
     if both {
-        return have_lengths(21 * n, 22 * n, 4 * n, messages, words, floats);
+        have_lengths(21 * n, 22 * n, 4 * n, messages, words, floats)
+    } else {
+        have_lengths(14 * n, 11 * n, 2 * n, messages, words, floats)
     }
-    have_lengths(14 * n, 11 * n, 2 * n, messages, words, floats)
 }
 
 // What is refused of a tray.
-fn tray_number(
+fn check_tray(
     both: bool,
     n: usize,
     samples: &[f32],
@@ -54,20 +52,14 @@ fn tray_number(
     messages: &[u8],
     words: &[u64],
     floats: &[f32],
-) -> u32
-    ensures { result ≡ tray_number (kinds_of both) n samples.now s indices.now (messages.now, words.now, floats.now) }
+) -> Result<(), Refusal>
+    ensures { told_number result ≡ tray_number (kinds_of both) n samples.now s indices.now (messages.now, words.now, floats.now) }
 {
-    if n > 64 {
-        return 2;
-    }
-    if samples.len() != 2310 * n {
-        return 2;
-    }
-    if indices.len() != n {
-        return 2;
+    if n > 64 || samples.len() != 2310 * n || indices.len() != n {
+        return Err(Refusal::Input);
     }
     if !have_room(both, n, messages, words, floats) {
-        return 3;
+        return Err(Refusal::Output);
     }
     check_settings(s)
 }
@@ -77,16 +69,14 @@ fn put_both(a: BothIn, message: &mut [u8], words: &mut [u64], floats: &mut [f32]
     requires { (length message.old ≡ 21) × (length words.old ≡ 22) × (length floats.old ≡ 4) × (length a.long.message ≡ 14) }
     ensures { (message.new ≡ take 14 a.long.message ++ take 7 a.short.message) × (words.new ≡ result_of a.long ++ result_of a.short) × (floats.new ≡ numbers_of a.long ++ numbers_of a.short) }
 {
-    let long = a.long;
-    let short = a.short;
-    put_result(
-        long,
+    let _ = put_result(
+        a.long,
         &mut message[0..14],
         &mut words[0..11],
         &mut floats[0..2],
     );
-    put_result(
-        short,
+    let _ = put_result(
+        a.short,
         &mut message[14..],
         &mut words[11..],
         &mut floats[2..],
@@ -103,70 +93,42 @@ fn window_at(samples: &[f32], k: usize) -> &[f32]
 }
 
 // What is answered for it, with its index.
-fn decode_at(
-    k: usize,
-    samples: &[f32],
-    sums: &mut [f32],
-    displacements: &[u8],
-    owners: &[u16],
-    s: Settings,
-    indices: &[u64],
-) -> Answer
-    requires { (k < 64) × (2310 * (k + 1) ≤ length samples.now) × (length sums.old ≡ 2304) × Hashed displacements.now owners.now × (k < length indices.now) }
-    ensures { result ≡ decode_of long (window_at samples.now k) s (get_or indices.now k 0) }
+fn decode_at(w: &Windows, hash: Hash, k: usize, sums: &mut [f32]) -> Answer
+    requires { (k < w.now.n) × (length sums.old ≡ 2304) }
+    ensures { result ≡ decode_of long (window_at w.now.samples.now k) w.now.s (get_or w.now.indices.now k 0) }
 {
-    decode_in(
-        window_at(samples, k),
-        sums,
-        displacements,
-        owners,
-        s,
-        indices[k],
-    )
+    decode_in(window_at(w.samples, k), sums, hash, w.s, w.indices[k])
 }
 
-fn both_at(
-    k: usize,
-    samples: &[f32],
-    sums: &mut [f32],
-    displacements: &[u8],
-    owners: &[u16],
-    s: Settings,
-    indices: &[u64],
-) -> BothIn
-    requires { (k < 64) × (2310 * (k + 1) ≤ length samples.now) × (length sums.old ≡ 2304) × Hashed displacements.now owners.now × (k < length indices.now) }
-    ensures { (result.long ≡ decode_of long (window_at samples.now k) s (get_or indices.now k 0)) × (cut_answer result.short ≡ decode_of short (window_at samples.now k) s (get_or indices.now k 0)) }
+fn both_at(w: &Windows, hash: Hash, k: usize, sums: &mut [f32]) -> BothIn
+    requires { (k < w.now.n) × (length sums.old ≡ 2304) }
+    ensures { (result.long ≡ decode_of long (window_at w.now.samples.now k) w.now.s (get_or w.now.indices.now k 0)) × (cut_answer result.short ≡ decode_of short (window_at w.now.samples.now k) w.now.s (get_or w.now.indices.now k 0)) }
 {
     both_in(
         false,
-        window_at(samples, k),
+        window_at(w.samples, k),
         sums,
-        displacements,
-        owners,
-        s,
-        indices[k],
+        hash,
+        w.s,
+        w.indices[k],
     )
 }
 
 // Result k of a tray for long messages.
 fn step_long(
+    w: &Windows,
+    hash: Hash,
     k: usize,
-    n: usize,
-    samples: &[f32],
     sums: &mut [f32],
-    displacements: &[u8],
-    owners: &[u16],
-    s: Settings,
-    indices: &[u64],
     messages: &mut [u8],
     words: &mut [u64],
     floats: &mut [f32],
 )
-    requires { (k < n) × (n ≤ 64) × (length samples.now ≡ 2310 * n) × (length sums.old ≡ 2304) × Hashed displacements.now owners.now × (length indices.now ≡ n) × (length messages.old ≡ 14 * n) × (length words.old ≡ 11 * n) × (length floats.old ≡ 2 * n) }
-    ensures { (messages.new ≡ with_row 14 k (tray_row message_of (kinds_of false) samples.now s indices.now k) messages.old) × (words.new ≡ with_row 11 k (tray_row result_of (kinds_of false) samples.now s indices.now k) words.old) × (floats.new ≡ with_row 2 k (tray_row numbers_of (kinds_of false) samples.now s indices.now k) floats.old) }
+    requires { (k < w.now.n) × (length sums.old ≡ 2304) × (length messages.old ≡ 14 * w.now.n) × (length words.old ≡ 11 * w.now.n) × (length floats.old ≡ 2 * w.now.n) }
+    ensures { (messages.new ≡ with_row 14 k (row_in message_of false w.now k) messages.old) × (words.new ≡ with_row 11 k (row_in result_of false w.now k) words.old) × (floats.new ≡ with_row 2 k (row_in numbers_of false w.now k) floats.old) }
 {
-    let a = decode_at(k, samples, sums, displacements, owners, s, indices);
-    put_result(
+    let a = decode_at(w, hash, k, sums);
+    let _ = put_result(
         a,
         &mut messages[14 * k..14 * k + 14],
         &mut words[11 * k..11 * k + 11],
@@ -176,22 +138,18 @@ fn step_long(
 
 // Result k of one for both searches.
 fn step_both(
+    w: &Windows,
+    hash: Hash,
     k: usize,
-    n: usize,
-    samples: &[f32],
     sums: &mut [f32],
-    displacements: &[u8],
-    owners: &[u16],
-    s: Settings,
-    indices: &[u64],
     messages: &mut [u8],
     words: &mut [u64],
     floats: &mut [f32],
 )
-    requires { (k < n) × (n ≤ 64) × (length samples.now ≡ 2310 * n) × (length sums.old ≡ 2304) × Hashed displacements.now owners.now × (length indices.now ≡ n) × (length messages.old ≡ 21 * n) × (length words.old ≡ 22 * n) × (length floats.old ≡ 4 * n) }
-    ensures { (messages.new ≡ with_row 21 k (tray_row message_of (kinds_of true) samples.now s indices.now k) messages.old) × (words.new ≡ with_row 22 k (tray_row result_of (kinds_of true) samples.now s indices.now k) words.old) × (floats.new ≡ with_row 4 k (tray_row numbers_of (kinds_of true) samples.now s indices.now k) floats.old) }
+    requires { (k < w.now.n) × (length sums.old ≡ 2304) × (length messages.old ≡ 21 * w.now.n) × (length words.old ≡ 22 * w.now.n) × (length floats.old ≡ 4 * w.now.n) }
+    ensures { (messages.new ≡ with_row 21 k (row_in message_of true w.now k) messages.old) × (words.new ≡ with_row 22 k (row_in result_of true w.now k) words.old) × (floats.new ≡ with_row 4 k (row_in numbers_of true w.now k) floats.old) }
 {
-    let a = both_at(k, samples, sums, displacements, owners, s, indices);
+    let a = both_at(w, hash, k, sums);
     put_both(
         a,
         &mut messages[21 * k..21 * k + 21],
@@ -203,84 +161,39 @@ fn step_both(
 // Result k of either.
 fn step(
     both: bool,
+    w: &Windows,
+    hash: Hash,
     k: usize,
-    n: usize,
-    samples: &[f32],
     sums: &mut [f32],
-    displacements: &[u8],
-    owners: &[u16],
-    s: Settings,
-    indices: &[u64],
     messages: &mut [u8],
     words: &mut [u64],
     floats: &mut [f32],
 )
-    requires { (k < n) × (n ≤ 64) × (length samples.now ≡ 2310 * n) × (length sums.old ≡ 2304) × Hashed displacements.now owners.now × (length indices.now ≡ n) × (length messages.old ≡ bytes_in (kinds_of both) * n) × (length words.old ≡ words_in (kinds_of both) * n) × (length floats.old ≡ floats_in (kinds_of both) * n) }
-    ensures { (messages.new ≡ with_row (bytes_in (kinds_of both)) k (tray_row message_of (kinds_of both) samples.now s indices.now k) messages.old) × (words.new ≡ with_row (words_in (kinds_of both)) k (tray_row result_of (kinds_of both) samples.now s indices.now k) words.old) × (floats.new ≡ with_row (floats_in (kinds_of both)) k (tray_row numbers_of (kinds_of both) samples.now s indices.now k) floats.old) }
+    requires { (k < w.now.n) × (length sums.old ≡ 2304) × (length messages.old ≡ bytes_in (kinds_of both) * w.now.n) × (length words.old ≡ words_in (kinds_of both) * w.now.n) × (length floats.old ≡ floats_in (kinds_of both) * w.now.n) }
+    ensures { (messages.new ≡ with_row (bytes_in (kinds_of both)) k (row_in message_of both w.now k) messages.old) × (words.new ≡ with_row (words_in (kinds_of both)) k (row_in result_of both w.now k) words.old) × (floats.new ≡ with_row (floats_in (kinds_of both)) k (row_in numbers_of both w.now k) floats.old) }
 {
     if both {
-        step_both(
-            k,
-            n,
-            samples,
-            sums,
-            displacements,
-            owners,
-            s,
-            indices,
-            messages,
-            words,
-            floats,
-        );
-        return;
+        step_both(w, hash, k, sums, messages, words, floats);
+    } else {
+        step_long(w, hash, k, sums, messages, words, floats);
     }
-    step_long(
-        k,
-        n,
-        samples,
-        sums,
-        displacements,
-        owners,
-        s,
-        indices,
-        messages,
-        words,
-        floats,
-    );
 }
 
-// All n results, with memory for the sums and the hashes lent.
+// All n results, with memory for the sums lent.
 fn fill(
     both: bool,
-    n: usize,
-    samples: &[f32],
+    w: &Windows,
+    hash: Hash,
     sums: &mut [f32],
-    displacements: &[u8],
-    owners: &[u16],
-    s: Settings,
-    indices: &[u64],
     messages: &mut [u8],
     words: &mut [u64],
     floats: &mut [f32],
 )
-    requires { (n ≤ 64) × (length samples.now ≡ 2310 * n) × (length sums.old ≡ 2304) × Hashed displacements.now owners.now × (length indices.now ≡ n) × (length messages.old ≡ bytes_in (kinds_of both) * n) × (length words.old ≡ words_in (kinds_of both) * n) × (length floats.old ≡ floats_in (kinds_of both) * n) }
-    ensures { (messages.new ≡ rows_of (tray_row message_of (kinds_of both) samples.now s indices.now) n) × (words.new ≡ rows_of (tray_row result_of (kinds_of both) samples.now s indices.now) n) × (floats.new ≡ rows_of (tray_row numbers_of (kinds_of both) samples.now s indices.now) n) }
+    requires { (length sums.old ≡ 2304) × (length messages.old ≡ bytes_in (kinds_of both) * w.now.n) × (length words.old ≡ words_in (kinds_of both) * w.now.n) × (length floats.old ≡ floats_in (kinds_of both) * w.now.n) }
+    ensures { (messages.new ≡ rows_of (row_in message_of both w.now) w.now.n) × (words.new ≡ rows_of (row_in result_of both w.now) w.now.n) × (floats.new ≡ rows_of (row_in numbers_of both w.now) w.now.n) }
 {
-    for k in 0..n {
-        step(
-            both,
-            k,
-            n,
-            samples,
-            sums,
-            displacements,
-            owners,
-            s,
-            indices,
-            messages,
-            words,
-            floats,
-        );
+    for k in 0..w.n {
+        step(both, w, hash, k, sums, messages, words, floats);
     }
 }
 
@@ -298,23 +211,21 @@ fn fill_lent(
     requires { (n ≤ 64) × (length samples.now ≡ 2310 * n) × (length indices.now ≡ n) × (length messages.old ≡ bytes_in (kinds_of both) * n) × (length words.old ≡ words_in (kinds_of both) * n) × (length floats.old ≡ floats_in (kinds_of both) * n) }
     ensures { (messages.new ≡ rows_of (tray_row message_of (kinds_of both) samples.now s indices.now) n) × (words.new ≡ rows_of (tray_row result_of (kinds_of both) samples.now s indices.now) n) × (floats.new ≡ rows_of (tray_row numbers_of (kinds_of both) samples.now s indices.now) n) }
 {
-    let mut displacements = [0u8; 2688];
-    let mut owners = [0u16; 8704];
-    let mut sums = [0.0f32; 2304];
-    write_hash(&mut displacements, &mut owners);
-    fill(
-        both,
+    let mut displacements = [0; 2688];
+    let mut owners = [0; 8704];
+    let mut sums = [0.0; 2304];
+    let _ = write_hash(&mut displacements, &mut owners);
+    let hash = Hash {
+        displacements: &displacements,
+        owners: &owners,
+    };
+    let windows = Windows {
         n,
         samples,
-        &mut sums,
-        &displacements,
-        &owners,
         s,
         indices,
-        messages,
-        words,
-        floats,
-    );
+    };
+    fill(both, &windows, hash, &mut sums, messages, words, floats);
 }
 
 // A tray of either kind.
@@ -327,18 +238,14 @@ fn decode_windows(
     messages: &mut [u8],
     words: &mut [u64],
     floats: &mut [f32],
-) -> u32
-    ensures { (result, messages.new, words.new, floats.new) ≡ tray_into (kinds_of both) n samples.now s indices.now (messages.old, words.old, floats.old) }
+) -> Result<(), Refusal>
+    ensures { (told_number result, messages.new, words.new, floats.new) ≡ tray_into (kinds_of both) n samples.now s indices.now (messages.old, words.old, floats.old) }
 {
-    let number = tray_number(both, n, samples, s, indices, messages, words, floats);
-    if number != 0 {
-        return number;
+    check_tray(both, n, samples, s, indices, messages, words, floats)?;
+    if n > 0 {
+        fill_lent(both, n, samples, s, indices, messages, words, floats);
     }
-    if n == 0 {
-        return number;
-    }
-    fill_lent(both, n, samples, s, indices, messages, words, floats);
-    number
+    Ok(())
 }
 
 // The messages of n windows, one result behind another: what `decode` answers for each window, its index and the settings. Refused, with
@@ -351,8 +258,8 @@ pub fn decode_tray(
     messages: &mut [u8],
     words: &mut [u64],
     floats: &mut [f32],
-) -> u32
-    ensures { (result, messages.new, words.new, floats.new) ≡ tray_into (kinds_of false) n samples.now s indices.now (messages.old, words.old, floats.old) }
+) -> Result<(), Refusal>
+    ensures { (told_number result, messages.new, words.new, floats.new) ≡ tray_into (kinds_of false) n samples.now s indices.now (messages.old, words.old, floats.old) }
 {
     decode_windows(false, n, samples, s, indices, messages, words, floats)
 }
@@ -366,8 +273,8 @@ pub fn decode_tray_both(
     messages: &mut [u8],
     words: &mut [u64],
     floats: &mut [f32],
-) -> u32
-    ensures { (result, messages.new, words.new, floats.new) ≡ tray_into (kinds_of true) n samples.now s indices.now (messages.old, words.old, floats.old) }
+) -> Result<(), Refusal>
+    ensures { (told_number result, messages.new, words.new, floats.new) ≡ tray_into (kinds_of true) n samples.now s indices.now (messages.old, words.old, floats.old) }
 {
     decode_windows(true, n, samples, s, indices, messages, words, floats)
 }

@@ -5,9 +5,7 @@ ghost use Rattle.search.specs.Trials.{checked, given};
 ghost use Rattle.receiver.specs.Inner.{kind_of, found_inside, or_try};
 
 use crate::kinds::header_of;
-use annex10::{Found, repairs_of};
-use mode_s::header::Validity;
-use mode_s::message::MessageKind;
+use annex10::{Found, MessageKind, repairs_of};
 use place::location::Location;
 use place::{Place, Slicer};
 use search::Tried;
@@ -16,13 +14,10 @@ use search::Tried;
 fn only(found: Found, n: u32) -> Found
     ensures { result ≡ only found n }
 {
-    let Found::At(repairs) = found else {
-        return Found::Nothing;
-    };
-    if n == repairs_of(repairs) {
-        return found;
+    match found {
+        Found::At(repairs) if n == repairs_of(repairs) => found,
+        _ => Found::Nothing,
     }
-    Found::Nothing
 }
 
 // The message at a place with n positions repaired, those that clear it being given: of the message only the first byte is looked at.
@@ -41,20 +36,21 @@ fn try_one(
     let Found::At(repairs) = only(found, n) else {
         return Tried::Fail;
     };
-    match header_of(kind, first, repairs) {
-        Validity::Valid => Tried::Pass(Location {
+    // The positions lie in the message, so the check is not refused.
+    if header_of(kind, first, repairs).unwrap_or(false) {
+        Tried::Pass(Location {
             place,
             trial: number,
             slicer,
             repairs,
-        }),
-        Validity::Invalid => Tried::Fail,
-        // The positions lie in the message.
-        Validity::Refused(_) => Tried::Fail,
+        })
+    } else {
+        Tried::Fail
     }
 }
 
 // One trial more, if none before it passed and it is to be made.
+#[tactic(auto, unfolding(crate::specs::Inner::or_try, search::specs::Trials::given))]
 pub fn then_try(
     kind: MessageKind,
     before: Tried,
@@ -69,11 +65,8 @@ pub fn then_try(
     requires { found_inside (kind_of kind) found ≡ true }
     ensures { result ≡ or_try before (given made (checked (kind_of kind) place number slicer (first ∷ []) (only found n))) }
 {
-    let Tried::Fail = before else {
-        return before;
-    };
-    if !made {
-        return Tried::Fail;
+    match before {
+        Tried::Fail if made => try_one(kind, number, slicer, first, place, found, n),
+        _ => before,
     }
-    try_one(kind, number, slicer, first, place, found, n)
 }

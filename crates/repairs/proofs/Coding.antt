@@ -1,76 +1,39 @@
 -- The codes of what clears a remainder, one number of positions after the other.
---     code_is_zero, code_not_zero     with no position
---     code_one                        with at most one, from the search for one
---     coded, code_two                 with at most two: where one clears, and where it does not, from the search for two
---     code_same, code_at              that of an equal remainder, and at an equal level
+--     code_is_zero                    of 0
+--     code_by                         from what clears
+--     code_same                       that of an equal remainder
 --     short_code_law, short_codes_law         of 7 bytes, from those of 14
---     into_done                       the answer where nothing is refused
 -- Assumes nothing.
 use mathlib.Core.Path.{◌≡◌, refl, sym, ap, ◌∙◌}
 use mathlib.Core.List.{List}
-use Prim.Native.Nat.{ℕ, ◌+◌, ◌*◌, ◌≤◌, ◌<◌, min}
+use Prim.Native.Nat.{ℕ, ◌+◌, ◌*◌, ◌≤◌}
 use native.Mathlib.Omega.{arith}
 use native.Mathlib.Decide.{dec_lt}
 use lib.ListN.{length, get_or}
-use borrow.Author.Tests.{eq-eqb, le-leb, lt-ltb, le-ltb}
+use borrow.Author.Tests.{lt-ltb, le-ltb}
 use Rattle.lists.proofs.Table.{length_tabulate, get_d_tabulate, tabulate_is}
-use Rattle.annex10.specs.declared.Repairs.{Repairs}
 use Rattle.annex10.specs.declared.Repairs.TheVariants.{None, One, Two}
 use Rattle.annex10.specs.declared.Found.{Found}
 use Rattle.annex10.specs.declared.Found.TheVariants.{At, Nothing}
-use Rattle.annex10.specs.Repair.{Proper, or_else, clearing}
-use Rattle.annex10.specs.Any.{up_to, clearing_up_to}
+use Rattle.annex10.specs.Repair.{Proper}
+use Rattle.annex10.specs.Any.{clearing_up_to}
 use Rattle.annex10.specs.Codes.{code_of}
 use Rattle.annex10.proofs.Shorter.{fewer, up_to_fewer}
 use Rattle.annex10.proofs.Unique.{apart_14}
-use Rattle.annex10.proofs.UpTo.{up_to_found, none_not_zero, up_to_zero}
-use Rattle.repairs.specs.Codes.{code_up_to, codes_up_to, codes_up_to_into}
+use Rattle.annex10.proofs.UpTo.{up_to_found, up_to_zero}
+use Rattle.repairs.specs.Codes.{code_up_to, codes_up_to}
 use Rattle.repairs.specs.Inner.{short_code, short_codes}
 
 pub code_is_zero : (level crc : ℕ) → crc ≡ 0 → 65535 ≡ code_up_to 14 level crc
 unfolding code_up_to
 code_is_zero level crc z = rw (z, up_to_zero 14 apart_14 level)
 
-pub code_not_zero : (crc : ℕ) → (crc ≡ 0 → ⊥) → 65536 ≡ code_up_to 14 0 crc
-unfolding code_up_to clearing_up_to up_to
-code_not_zero crc z = rw (none_not_zero 14 crc z)
-
-pub code_one : (crc : ℕ) {c : ℕ} {f : Found} → (crc ≡ 0 → ⊥) → f ≡ clearing 14 1 crc → c ≡ code_of f → c ≡ code_up_to 14 1 crc
-unfolding code_up_to clearing_up_to up_to
-code_one crc z e g = g ∙ ap code_of e ∙ rw (none_not_zero 14 crc z)
-
--- the code of a choice is below that of nothing
-code_lt : (ρ : Repairs) → Proper 14 ρ → code_of (At ρ) < 65536
-code_lt None h = omega arith
-code_lt (One j) h = omega arith
-code_lt (Two j k) h = omega arith
-
-nothing_coded : (level crc : ℕ) → 65536 ≤ code_up_to 14 level crc → clearing_up_to 14 level crc ≡ Nothing
+pub code_by : (level crc : ℕ) {c : ℕ} {f : Found} → f ≡ clearing_up_to 14 level crc → c ≡ code_of f → c ≡ code_up_to 14 level crc
 unfolding code_up_to
-nothing_coded level crc h = go (clearing_up_to 14 level crc) refl h
-  where
-    go : (o : Found) → clearing_up_to 14 level crc ≡ o → 65536 ≤ code_of o → o ≡ Nothing
-    go Nothing e l = refl
-    go (At ρ) e l = absurd (omega (arith, code_lt ρ (up_to_found 14 crc level e).clears.proper))
-
--- where one position clears, two change nothing
-pub coded : (crc : ℕ) {c : ℕ} → c ≡ code_up_to 14 1 crc → c < 65536 → c ≡ code_up_to 14 2 crc
-unfolding code_up_to clearing_up_to up_to
-coded crc {c} e h = e ∙ go (clearing_up_to 14 1 crc) e
-  where
-    go : (o : Found) → c ≡ code_of o → code_of o ≡ code_of (or_else o (clearing 14 2 crc))
-    go Nothing q = absurd (omega arith)
-    go (At ρ) q = refl
-
-pub code_two : (crc : ℕ) {c d : ℕ} {f : Found} → d ≡ code_up_to 14 1 crc → 65536 ≤ d → f ≡ clearing 14 2 crc → c ≡ code_of f → c ≡ code_up_to 14 2 crc
-unfolding code_up_to clearing_up_to up_to
-code_two crc z h e g = g ∙ ap code_of e ∙ rw (nothing_coded 1 crc (omega (arith, z, h)))
+code_by level crc e g = g ∙ ap code_of e
 
 pub code_same : (level : ℕ) {c last crc : ℕ} → c ≡ code_up_to 14 level last → crc ≡ last → c ≡ code_up_to 14 level crc
 code_same level e q = rw (q, e)
-
-pub code_at : (n crc : ℕ) {c level : ℕ} → c ≡ code_up_to 14 n crc → level ≡ n → c ≡ code_up_to 14 level crc
-code_at n crc e q = rw (q, e)
 
 -- ---- 7 bytes
 
@@ -101,10 +64,3 @@ short_codes_law level crcs codes xs h e g =
     ∙ get_d_tabulate (length codes) (λ (k : ℕ). short_code (get_or codes k 0)) i 0 (omega (arith, n))
     ∙ ap short_code (ap (λ (ys : List ℕ). get_or ys i 0) e ∙ get_d_tabulate (length crcs) (λ (k : ℕ). code_up_to 14 level (get_or crcs k 0)) i 0 l)
     ∙ short_code_law level (get_or crcs i 0) h)
-
--- ---- the answer
-
-pub into_done : (n most level m : ℕ) (crcs codes xs : List ℕ) → length codes ≡ length crcs → level ≤ 2 → m ≡ min level most → xs ≡ codes_up_to n m crcs
-    → (0, xs) ≡ codes_up_to_into n most level crcs codes
-unfolding codes_up_to_into
-into_done n most level m crcs codes xs e h q g = rw (eq-eqb _ _ e, le-leb level 2 h, g, q)

@@ -1,9 +1,8 @@
 -- Positions that are named, and checked by dividing.
 --     raised, pattern_raised     the remainder of one position: its byte divided, and zero bytes behind it; all 112 are computed
 --     pattern_outside            that of a position which is not there
---     cleared_one, cleared_two   in the code's own words
+--     cleared_two                in the code's own words
 --     named_right                positions that clear a remainder are what is found
---     code_high                  nothing clears what has more than 24 bits
 --     short_named                of 7 bytes
 -- Assumes nothing.
 use mathlib.Core.Path.{◌≡◌, refl, sym, ap, ◌∙◌}
@@ -26,7 +25,7 @@ use Rattle.annex10.specs.Repair.{Proper, count, repaired, pattern}
 use Rattle.annex10.specs.Any.{clearing_up_to}
 use Rattle.annex10.specs.Codes.{code_of}
 use Rattle.annex10.proofs.Repairing.{not_there, looked_up, pattern_two}
-use Rattle.annex10.proofs.UpTo.{up_to_found, up_to_gone, up_to_none, gone_high}
+use Rattle.annex10.proofs.UpTo.{up_to_found, up_to_gone}
 use Rattle.annex10.proofs.Unique.{apart_14}
 use Rattle.repairs.specs.Codes.{code_up_to}
 use Rattle.repairs.specs.Inner.{cleared_by, short_code}
@@ -65,10 +64,6 @@ pub pattern_outside : (j : ℕ) → 112 ≤ j → j < 256 → 0 ≡ pattern 14 (
 pattern_outside j h l = sym (ap (λ (t : Bool). cond t (byte_of j) 0) (le-ltb j 112 h)) ∙ holds j l
 
 -- ---- what clears
-
-pub cleared_one : (j r : ℕ) {x : ℕ} → j < 112 → x ≡ pattern 14 (One j) → eqb x r ≡ cleared_by (One j) r
-unfolding cleared_by
-cleared_one j r h e = rw (lt-ltb j 112 h, e)
 
 pub cleared_two : (j k r : ℕ) {x y : ℕ} → j < k → k < 112 → x ≡ pattern 14 (One j) → y ≡ pattern 14 (One k) → eqb (bit_xor x y) r ≡ cleared_by (Two j k) r
 unfolding cleared_by
@@ -110,10 +105,6 @@ named_right ρ level r h e g = g ∙ ap code_of (sym (go (clearing_up_to 14 leve
     go (At σ) q =
         let c = (up_to_found 14 r level q).clears in
         ap At (apart_14.same σ ρ c.proper w.proper (c.fits ∙ sym w.fits))
-
-pub code_high : (level r : ℕ) → 2 ^ 24 ≤ r → 65536 ≡ code_up_to 14 level r
-unfolding code_up_to
-code_high level r h = ap code_of (sym (up_to_none 14 r level (λ n l. gone_high 14 r h n)))
 
 pub short_named : (level r : ℕ) {n c d : ℕ} → n ≡ min level 1 → c ≡ code_up_to 14 n r → d ≡ short_code c → d ≡ code_up_to 7 (min level 1) r
 short_named level r {n} {c} {d} e f g = g ∙ ap short_code f ∙ short_code_law n r (omega arith) ∙ ap (λ (m : ℕ). code_up_to 7 m r) e

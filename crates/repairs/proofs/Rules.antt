@@ -301,6 +301,6 @@ double_law p t u h =
         let q : remainder_at t i ≡ bit_xor (S j) (S k) = omega (arith, v.bound) in
         (i, l, q ∙ sym (two_is j k hj hk))
 
--- as a function asks it that looks for crc, which is of the part
-pub part_law : (p crc : ℕ) → crc / 2 ^ 20 ≡ p → (t u : List ℕ) → T (double_rule p singles t u) → DoubleTable (crc / 2 ^ 20) t u
-part_law p crc e t u h = subst (λ (q : ℕ). DoubleTable q t u) (sym e) (double_law p t u h)
+-- as a function asks it that tells the part of a number
+pub part_law : (p q : ℕ) → q ≡ p → (t u : List ℕ) → T (double_rule p singles t u) → DoubleTable q t u
+part_law p q e t u h = subst (λ (n : ℕ). DoubleTable n t u) (sym e) (double_law p t u h)

@@ -11,15 +11,17 @@ mod search;
 mod tables;
 
 ghost use Rattle.std.specs.Prelude.{◌≡◌};
+ghost use Rattle.refusals.specs.Refusals.{told};
 ghost use Rattle.annex10.specs.Repair.{clearing};
-ghost use Rattle.annex10.specs.Mend.{mended_told, repair_of};
+ghost use Rattle.annex10.specs.Mend.{repair_of};
 
 use crate::fewest::fewest;
-use crate::parts::double_of;
-use crate::search::single_in;
+use crate::parts::part_of;
+use crate::search::{double_in, single_in};
 use crate::tables::SINGLE;
-use annex10::{Found, Mended};
+use annex10::Found;
 use mode_s::crc::crc24;
+use refusals::Refusal;
 
 // The position whose pattern has the remainder crc, if there is one.
 pub fn single_bit_error_from_crc24(crc: u32) -> Found
@@ -29,21 +31,25 @@ pub fn single_bit_error_from_crc24(crc: u32) -> Found
 }
 
 // The two positions whose pattern has the remainder crc, if there are such.
+#[tactic(auto, using(crate::proofs::Lookup::no_part))]
 pub fn double_bit_error_from_crc24(crc: u32) -> Found
     ensures { result ≡ clearing 14 2 crc }
 {
-    double_of(crc)
+    match part_of(crc >> 20) {
+        Some((table, second)) => double_in(table, second, crc),
+        None => Found::Nothing,
+    }
 }
 
-// The fewest positions, at most `level`, that clear a message of 14 bytes, by the tables. Refused: 2 another length, 4 a level above 2.
-pub fn repair(level: u32, message: &[u8]) -> Mended
-    ensures { mended_told result ≡ repair_of 14 2 level message.now }
+// The fewest positions, at most `level`, that clear a message of 14 bytes, by the tables. Refused: another length, a level above 2.
+pub fn repair(level: u32, message: &[u8]) -> Result<Found, Refusal>
+    ensures { told result ≡ repair_of 14 2 level message.now }
 {
     if message.len() != 14 {
-        return Mended::Refused(2);
+        return Err(Refusal::Input);
     }
     if level > 2 {
-        return Mended::Refused(4);
+        return Err(Refusal::Level);
     }
-    Mended::Is(fewest(level, crc24(message)))
+    Ok(fewest(level, crc24(message)))
 }

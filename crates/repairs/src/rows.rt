@@ -1,57 +1,62 @@
-// The same for many remainders at once, as codes. A constant is written out at the start of the function that lends it: so the table of
-// single errors has its own, and is lent once for all of them.
-ghost use Rattle.std.specs.Prelude.{◌≡◌, ◌≤◌, length};
+// The same for many remainders at once, as codes. Those of 7 bytes come of those of 14.
+ghost use Rattle.std.specs.Prelude.{◌≡◌, ℕ, ◌≤◌, length, MatchResult};
+ghost use Rattle.annex10.specs.Length.{message_bytes, most_repairs};
+ghost use Rattle.refusals.specs.Refusals.{number, told_number};
 ghost use Rattle.repairs.specs.Codes.{codes_up_to, codes_up_to_into};
 
-use crate::codes::{at_most_one, exact, shorten, up_to_in};
-use crate::tables::SINGLE;
+use crate::codes::shorten;
+use crate::fewest::fewest;
+use annex10::MessageKind;
+use annex10::codes::code_of;
+use refusals::Refusal;
 
-// With at most `level`, which is 1 or 2.
-fn up_to(level: u32, crcs: &[u32], codes: &mut [u32])
-    requires { (1 ≤ level) × (level ≤ 2) × (length codes.old ≡ length crcs.now) }
-    ensures { codes.new ≡ codes_up_to 14 level crcs.now }
+// As many codes as remainders, and no level above 2.
+#[tactic(auto, unfolding(crate::specs::Codes::codes_up_to_into))]
+fn check(level: u32, crcs: &[u32], codes: &[u32]) -> Result<(), Refusal>
+    ensures { MatchResult result (λ _. (level ≤ 2) × (length codes.now ≡ length crcs.now)) (λ refusal. (bytes most : ℕ) → (number refusal, codes.now) ≡ codes_up_to_into bytes most level crcs.now codes.now) }
 {
-    up_to_in(level, &SINGLE, crcs, codes);
+    if codes.len() != crcs.len() {
+        return Err(Refusal::Output);
+    }
+    if level > 2 {
+        return Err(Refusal::Level);
+    }
+    Ok(())
 }
 
-// With at most `level` positions of 14 bytes.
+// With at most `level` positions of 14 bytes. Both slicers often have the same bits: the code of an equal remainder is that of the one
+// before it. 0 is cleared by no position: it stands before the first.
 fn find_codes(level: u32, crcs: &[u32], codes: &mut [u32])
     requires { (level ≤ 2) × (length codes.old ≡ length crcs.now) }
     ensures { codes.new ≡ codes_up_to 14 level crcs.now }
 {
-    if level == 0 {
-        exact(crcs, codes);
-        return;
+    let mut last = 0;
+    let mut code = 0xffff;
+    for (i, &crc) in crcs.iter().enumerate() {
+        if crc != last {
+            last = crc;
+            code = code_of(fewest(level, crc));
+        }
+        codes[i] = code;
     }
-    up_to(level, crcs, codes);
 }
 
-// For each remainder of 14 bytes the fewest positions, at most `level`, as a code. Refused: 3 where there are not as many codes as
-// remainders, 4 a level above 2.
-pub fn bit_errors_from_crc24s(level: u32, crcs: &[u32], codes: &mut [u32]) -> u32
-    ensures { (result, codes.new) ≡ codes_up_to_into 14 2 level crcs.now codes.old }
+// For each remainder the fewest positions of a message, at most `level` and no more than its kind allows, as a code. Refused: not as many
+// codes as remainders, a level above 2.
+#[tactic(auto, using(crate::proofs::Coding::short_codes_law), unfolding(crate::specs::Codes::codes_up_to_into))]
+pub fn bit_errors_from_crc24s(
+    kind: MessageKind,
+    level: u32,
+    crcs: &[u32],
+    codes: &mut [u32],
+) -> Result<(), Refusal>
+    ensures { (told_number result, codes.new) ≡ codes_up_to_into (message_bytes kind) (most_repairs kind) level crcs.now codes.old }
 {
-    if codes.len() != crcs.len() {
-        return 3;
+    check(level, crcs, codes)?;
+    find_codes(level.min(kind.most()), crcs, codes);
+    match kind {
+        MessageKind::Short => shorten(codes),
+        MessageKind::Long => {}
     }
-    if level > 2 {
-        return 4;
-    }
-    find_codes(level, crcs, codes);
-    0
-}
-
-// The same of 7 bytes: at most one position, at any level above 0.
-pub fn bit_errors_from_crc24s_short(level: u32, crcs: &[u32], codes: &mut [u32]) -> u32
-    ensures { (result, codes.new) ≡ codes_up_to_into 7 1 level crcs.now codes.old }
-{
-    if codes.len() != crcs.len() {
-        return 3;
-    }
-    if level > 2 {
-        return 4;
-    }
-    find_codes(at_most_one(level), crcs, codes);
-    shorten(codes);
-    0
+    Ok(())
 }

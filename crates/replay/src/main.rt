@@ -8,9 +8,9 @@ mod make;
 mod record;
 mod say;
 
-use crate::compare::{long_difference, print_field, short_difference};
+use crate::compare::{long_difference, short_difference};
 use crate::make::window;
-use crate::record::{long_word, wide, word};
+use crate::record::{long_word, word};
 use crate::say::{say, say_number};
 use receiver::decode::decode_both;
 use search::{BothAnswers, Settings};
@@ -30,20 +30,16 @@ fn decoded(r: &[u8; 408], samples: &[f32; 2310]) -> BothAnswers {
     )
 }
 
-// Whether a field is none. What is not the same is told.
-fn met(output: Stdout, k: u32, short: bool, field: u32) -> bool {
-    if field == 0 {
+// Whether no field differs. One that does is told.
+fn met(output: Stdout, k: u32, kind: &str, difference: Option<&str>) -> bool {
+    let Some(field) = difference else {
         return true;
-    }
-    say(output, b"window ");
-    say_number(output, k as u64);
-    if short {
-        say(output, b": short ");
-    } else {
-        say(output, b": ");
-    }
-    print_field(output, field);
-    say(output, b" disagrees\n");
+    };
+    say(output, "window ");
+    say_number(output, k);
+    say(output, kind);
+    say(output, field);
+    say(output, " disagrees\n");
     false
 }
 
@@ -51,19 +47,15 @@ fn met(output: Stdout, k: u32, short: bool, field: u32) -> bool {
 fn replay(output: Stdout, r: &[u8; 408], k: u32) -> bool {
     let samples = window(r);
     let both = decoded(r, &samples);
-    let long = both.long;
-    let short = both.short;
-    let same = met(output, k, false, long_difference(r, long));
-    if !met(output, k, true, short_difference(r, short)) {
-        return false;
-    }
-    same
+    let long = met(output, k, ": ", long_difference(r, both.long));
+    let short = met(output, k, ": short ", short_difference(r, both.short));
+    long && short
 }
 
 fn replay_next(mut input: Stdin, output: Stdout, k: u32) -> bool {
     let mut r = [0u8; 408];
     if input.read_exact(&mut r).is_err() {
-        say(output, b"the list is too short\n");
+        say(output, "the list is too short\n");
         return false;
     }
     replay(output, &r, k)
@@ -73,23 +65,21 @@ fn replay_next(mut input: Stdin, output: Stdout, k: u32) -> bool {
 fn count(mut input: Stdin) -> u32 {
     let mut head = [0u8; 4];
     let _ = input.read_exact(&mut head);
-    wide(head[0]) | (wide(head[1]) << 8)
+    u32::from(u16::from_le_bytes([head[0], head[1]]))
 }
 
 fn main(rt: HostRuntime) {
     let input = rt.stdin();
     let output = rt.stdout();
     let n = count(input);
-    let mut wrong: u64 = 0;
-    let mut k: u32 = 0;
-    while k < n {
+    let mut wrong: u32 = 0;
+    for k in 0..n {
         if !replay_next(input, output, k) {
-            wrong = std::num::wrapping_add_u64(wrong, 1);
+            wrong = wrong.wrapping_add(1);
         }
-        k += 1;
     }
-    say_number(output, n as u64);
-    say(output, b" windows, ");
+    say_number(output, n);
+    say(output, " windows, ");
     say_number(output, wrong);
-    say(output, b" disagree\n");
+    say(output, " disagree\n");
 }

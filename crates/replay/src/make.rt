@@ -12,14 +12,14 @@ fn next(w: u32) -> u32 {
 
 // -8 to 7.
 fn small(w: u32) -> f32 {
-    ((w >> 28) as u16) as f32 - 8.0
+    f32::from((w >> 28) as u16) - 8.0
 }
 
 fn put_noise(x: &mut [f32; 2310], seed: u32, noise: f32) {
     let mut w = seed;
-    for j in 0..2310 {
+    for value in x.iter_mut() {
         w = next(w);
-        x[j] = small(w) * noise;
+        *value = small(w) * noise;
     }
 }
 
@@ -41,18 +41,12 @@ fn target(r: &[u8; 408], plant: usize, n: usize, part: usize) -> f32
     // In the first half a 1 is a pulse, in the second a 0.
     let pulse = 1 - (n % 2) as u8;
     if part == 0 {
-        if coherent == pulse {
-            return amplitude;
-        }
-        return 0.0;
+        if coherent == pulse { amplitude } else { 0.0 }
+    } else if coherent != noncoherent && noncoherent == pulse {
+        amplitude + amplitude
+    } else {
+        0.0
     }
-    if coherent == noncoherent {
-        return 0.0;
-    }
-    if noncoherent == pulse {
-        return amplitude + amplitude;
-    }
-    0.0
 }
 
 fn start_of(r: &[u8; 408], plant: usize) -> usize
@@ -62,22 +56,14 @@ fn start_of(r: &[u8; 408], plant: usize) -> usize
     (word(r, 40 + 36 * plant) % 256) as usize
 }
 
-fn add(x: &mut [f32; 2310], at: usize, value: f32)
-    requires { at < 2310 }
-{
-    x[at] = x[at] + value;
-}
-
 // One sample of the symbol, or all four.
 fn put_symbol(x: &mut [f32; 2310], at: usize, full: bool, value: f32)
     requires { at < 2304 }
 {
-    if full {
-        add(x, at, value);
-        add(x, at + 4, value);
-        add(x, at + 6, value);
+    let (first, last) = if full { (0, 3) } else { (1, 1) };
+    for m in first..=last {
+        x[at + 2 * m] += value;
     }
-    add(x, at + 2, value);
 }
 
 fn put_plant(x: &mut [f32; 2310], r: &[u8; 408], plant: usize, full: bool, part: usize)
@@ -125,35 +111,28 @@ fn put_part(x: &mut [f32; 2310], r: &[u8; 408], part: usize)
         put_row(x, r, part);
     } else {
         let full = shape == 1;
-        put_plant(x, r, 0, full, part);
-        put_plant(x, r, 1, full, part);
-        put_plant(x, r, 2, full, part);
-        put_plant(x, r, 3, full, part);
+        for plant in 0..4 {
+            put_plant(x, r, plant, full, part);
+        }
     }
 }
 
 fn scale(x: &mut [f32; 2310], by: f32) {
-    for j in 0..2310 {
-        x[j] = x[j] * by;
+    for value in x.iter_mut() {
+        *value *= by;
     }
 }
 
 // Nothing came in for so many samples from one on.
 fn blank(x: &mut [f32; 2310], first: u32, count: u32) {
-    for m in 0..1155 {
-        let at = m as u32;
-        if at >= first {
-            if at - first < count {
-                x[2 * m] = 0.0;
-                x[2 * m + 1] = 0.0;
-            }
-        }
-    }
+    let from = first.min(1155) as usize;
+    let to = first.saturating_add(count).min(1155) as usize;
+    x[2 * from..2 * to].fill(0.0);
 }
 
 fn store(x: &mut [f32; 2310], at: u32, bits: u32) {
-    if at < 2310 {
-        x[at as usize] = float_of(bits);
+    if let Some(value) = x.get_mut(at as usize) {
+        *value = float_of(bits);
     }
 }
 
@@ -166,8 +145,9 @@ fn put_stores(x: &mut [f32; 2310], r: &[u8; 408]) {
 pub fn window(r: &[u8; 408]) -> [f32; 2310] {
     let mut x = [0.0f32; 2310];
     put_noise(&mut x, word(r, 24), float_of(word(r, 28)));
-    put_part(&mut x, r, 0);
-    put_part(&mut x, r, 1);
+    for part in 0..2 {
+        put_part(&mut x, r, part);
+    }
     scale(&mut x, float_of(word(r, 32)));
     blank(&mut x, word(r, 184), word(r, 188));
     blank(&mut x, word(r, 192), word(r, 196));

@@ -6,23 +6,21 @@ use annex10::{Repairs, repairs_of};
 use place::Slicer;
 use place::location::Location;
 
-fn first_of(repairs: Repairs) -> u64
+fn first_of(repairs: Repairs) -> u8
     ensures { result ≡ first_of repairs }
 {
     match repairs {
         Repairs::None => 0,
-        Repairs::One(j) => j as u64,
-        Repairs::Two(j, _) => j as u64,
+        Repairs::One(j) | Repairs::Two(j, _) => j,
     }
 }
 
-fn second_of(repairs: Repairs) -> u64
+fn second_of(repairs: Repairs) -> u8
     ensures { result ≡ second_of repairs }
 {
     match repairs {
-        Repairs::None => 0,
-        Repairs::One(_) => 0,
-        Repairs::Two(_, k) => k as u64,
+        Repairs::None | Repairs::One(_) => 0,
+        Repairs::Two(_, k) => k,
     }
 }
 
@@ -40,18 +38,16 @@ pub fn words_of(index: u64, location: Location, undecided: u32) -> [u64; 10]
     ensures { result ≡ row_of index location undecided }
 {
     let place = location.place;
-    let repairs = location.repairs;
-    let slicer = location.slicer;
     [
         index,
         place.bit as u64,
         place.phase as u64,
         place.symbol as u64,
-        repairs_of(repairs) as u64,
-        first_of(repairs),
-        second_of(repairs),
-        code_of(slicer),
-        undecided as u64,
-        location.trial as u64,
+        u64::from(repairs_of(location.repairs)),
+        u64::from(first_of(location.repairs)),
+        u64::from(second_of(location.repairs)),
+        code_of(location.slicer),
+        u64::from(undecided),
+        u64::from(location.trial),
     ]
 }

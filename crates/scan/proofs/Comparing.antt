@@ -4,23 +4,46 @@
 --     Room, room_of             the lengths of the memories, one by one
 --     scanned_done, both_done   the answer where nothing is refused: for one kind of message, for both
 -- Assumes nothing.
-use Rattle.std.proofs.Common.{◌≡◌, ℕ, ◌+◌, ◌<◌, ◌≤◌, true, ◌&&◌, eqb, List, length, get_or, subst, arith, le-ltb, lt-ltb, eq-eqb, eqb-true}
+use Rattle.std.proofs.Common.{◌≡◌, ◌∙◌, ℕ, ◌+◌, ◌<◌, ◌≤◌, Bool, true, false, ◌&&◌, eqb, List, [], ◌++◌, length, replicate, get_or, take, drop, ◌-◌, refl, subst, arith, le-ltb, lt-ltb, eq-eqb, eqb-true}
 use lib.Ieee.{Float, lt, nan}
+use mir.Val.{bool_byte}
+use native.Mathlib.Decide.{dec_lt}
+use borrow.Rule.Slice.PartMut.{put_mid}
+use Rattle.std.proofs.lemmas.Grind.{common_steps}
+use Rattle.lists.specs.From.{tabulate}
 use Rattle.lists.specs.Bits.{as_bit}
-use Rattle.lists.proofs.Table.{Done}
+use Rattle.lists.proofs.Table.{Done, tabulate_is}
 use Rattle.lists.proofs.Test.{and_both}
 use Rattle.kernels.specs.Symbols.{sums_of}
 use Rattle.place.specs.declared.Slicer.TheVariants.{Coherent, Noncoherent}
 use Rattle.scan.specs.Flat.{bits_from, crcs_in, room_for, scanned, scanned_both}
 use Rattle.scan.specs.Inner.{bit_in}
 
-pub bit_is : (row : List Float) (i : ℕ) {b : ℕ} → i < 1148 → b ≡ as_bit (lt (get_or row (i + 4) nan) (get_or row i nan)) → b ≡ bit_in row i
-unfolding bit_in
-bit_is row i h e = rw (lt-ltb (i + 4) 1152 (omega arith)) e
+-- a truth as a number
+pub truth_is : (t : Bool) → bool_byte t ≡ as_bit t
+truth_is true = refl
+truth_is false = refl
 
-pub no_bit : (row : List Float) (i : ℕ) → 1148 ≤ i → 0 ≡ bit_in row i
+pub bit_is : (row : List Float) (i : ℕ) {b : ℕ} → i < 1148 → b ≡ bool_byte (lt (get_or row (i + 4) nan) (get_or row i nan)) → b ≡ bit_in row i
+unfolding bit_in
+bit_is row i h e = rw (lt-ltb (i + 4) 1152 (omega arith)) (e ∙ truth_is _)
+
+pub no_bit : (row : List Float) (i : ℕ) → 1148 ≤ i → bit_in row i ≡ 0
 unfolding bit_in
 no_bit row i h = rw (le-ltb (i + 4) 1152 (omega arith))
+
+-- a list whose first m elements are those of f, and all behind them are filled with zeros
+pub zeros_behind : (f : ℕ → ℕ) (n m : ℕ) (xs : List ℕ) {i : ℕ} {ys : List ℕ} → length xs ≡ n → m ≤ n → Done 0 f n xs i → m ≤ i
+    → ys ≡ replicate (length (take (length xs - m) (drop m xs))) 0 → ((k : ℕ) → m ≤ k → f k ≡ 0) → put_mid m (length xs - m) xs ys ≡ tabulate n f
+zeros_behind f n m xs l h r g w z =
+    let p = length (take (length xs - m) (drop m xs)) in
+    let e : p ≡ n - m = grind (arith, common_steps) in
+    let rest : drop (length xs - m) (drop m xs) ≡ [] = grind (arith, common_steps) in
+    rw (rest, w) (tabulate_is 0 f n (take m xs ++ (replicate p 0 ++ [])) (grind (arith, common_steps)) (λ k q. go p e k q (dec_lt k m)))
+  where
+    go : (p : ℕ) → p ≡ n - m → (k : ℕ) → k < n → Dec (k < m) → get_or (take m xs ++ (replicate p 0 ++ [])) k 0 ≡ f k
+    go p e k q (yes b) = let s = r.each k (omega arith) in grind (arith, common_steps)
+    go p e k q (no b) = let s = z k (omega arith) in grind (arith, common_steps)
 
 pub done_at : {A : Type 0} {d : A} (f : ℕ → A) (n : ℕ) (xs : List A) (i : ℕ) {j : ℕ} → i ≡ j → Done d f n xs i → Done d f n xs j
 done_at {d = d} f n xs i e r = subst (λ (m : ℕ). Done d f n xs m) e r

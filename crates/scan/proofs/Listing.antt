@@ -4,21 +4,19 @@
 --     mark_is                   where the mark of a place stands
 --     kept_same                 two tests that are the same
 --     exact_kept                the marked places are the exact ones
---     any_more, none_kept       no place is marked
---     copy_more, copy_length, copy_all     the loop that copies
+--     none_kept                 no place is marked
 --     kept_length               how many there are
 --     listed_is, exact_done     the answer where nothing is refused
 -- Assumes nothing.
-use Rattle.std.proofs.Common.{◌≡◌, ℕ, zero, suc, ◌+◌, ◌*◌, ◌/◌, ◌%◌, ◌<◌, ◌≤◌, Bool, true, false, ◌&&◌, ◌||◌, eqb, List, [], ◌++◌, length, get_or, take, drop, set, sym, refl, ap, ◌∙◌, subst, add-one, arith, lit<, length-append, length-drop, length-take-le, drop-cons, take-suc, eq-eqb}
-use native.Mathlib.Decide.{ℕ_discrete, dec_lt}
+use Rattle.std.proofs.Common.{◌≡◌, ℕ, zero, suc, ◌+◌, ◌*◌, ◌/◌, ◌%◌, ◌<◌, ◌≤◌, Bool, true, false, ◌&&◌, ◌||◌, eqb, List, [], ◌∷◌, ◌++◌, fold, length, get_or, take, drop, sym, refl, ap, ◌∙◌, subst, arith, lit<, length-take-le, eq-eqb}
+use native.Mathlib.Decide.{dec_lt}
 use lib.Bits.{bit_or, bit_and, or_add_and, and_le_l, and_le_r}
 use lib.ListN.{get_or-eq_default}
-use lib.Seq.{set_at, append_snoc}
 use Rattle.lists.specs.From.{tabulate}
+use Rattle.lists.specs.Told.{Told, done}
 use Rattle.lists.specs.Bits.{as_bit}
 use Rattle.lists.proofs.Table.{length_tabulate, get_d_tabulate}
 use Rattle.slicing.proofs.Slicing.{as_bit_lt}
-use Rattle.scan.specs.declared.list.Listed.{Listed}
 use Rattle.scan.specs.Sieve.{kept, lane_of, onto}
 use Rattle.scan.specs.Exact.{clean_at, exact, list_of, exact_into}
 use Rattle.scan.specs.Inner.{Marks, marked, any_of, exact_mark, exact_marks}
@@ -89,48 +87,28 @@ exact_kept lead m coherent noncoherent crcs others {marks} e =
 
 -- ---- where no place is marked
 
-pub any_more : (marks : List ℕ) (n : ℕ) {r : ℕ} → r ≡ any_of marks n → bit_or r (get_or marks n 0) ≡ any_of marks (n + 1)
-unfolding any_of
-any_more marks n e = rw (add-one n, e)
+any_none : (r : ℕ) (marks : List ℕ) → fold bit_or r marks ≡ 0 → (r ≡ 0) × ((k : ℕ) → get_or marks k 0 ≡ 0)
+any_none r [] e = (e, λ k. refl)
+any_none r (b ∷ marks) e =
+    let w = any_none (bit_or r b) marks e in
+    let o = or_add_and r b in
+    let l = and_le_l r b in
+    let m = and_le_r r b in
+    (omega arith, elim [ zero ↦ omega arith | suc k ↦ w.1 k ])
 
-any_none : (marks : List ℕ) (n : ℕ) → any_of marks n ≡ 0 → (k : ℕ) → k < n → get_or marks k 0 ≡ 0
-unfolding any_of
-any_none marks zero e k h = omega arith
-any_none marks (suc n) e k h =
-    let a = any_of marks n in
-    let b = get_or marks n 0 in
-    elim (ℕ_discrete k n) [
-      | yes last ↦ ap (λ (i : ℕ). get_or marks i 0) last ∙ (omega (arith, or_add_and a b, and_le_l a b, e))
-      | no before ↦ any_none marks n (omega (arith, or_add_and a b, and_le_r a b, e)) k (omega arith)
-    ]
-
-pub none_kept : (m : ℕ) (marks : List ℕ) {r : ℕ} → r ≡ any_of marks (8 * m) → r ≡ 0 → kept (marked marks) (8 * m) ≡ []
+pub none_kept : (m : ℕ) (marks : List ℕ) {r : ℕ} → r ≡ any_of marks → r ≡ 0 → kept (marked marks) (8 * m) ≡ []
 unfolding marked
 none_kept m marks e z =
-    kept_none (λ (k : ℕ). eqb (get_or marks (lane_of k) 0) 1) (8 * m) (λ k h. rw (any_none marks (8 * m) (sym e ∙ z) (lane_of k) (lane_lt m k h)))
+    kept_none (λ (k : ℕ). eqb (get_or marks (lane_of k) 0) 1) (8 * m) (λ k h. rw ((any_none 0 marks (sym e ∙ z)).1 (lane_of k)))
 
 -- ---- the list
-
-module _ (xs list : List ℕ) where
-  pub copy_more : (i : ℕ) → i < length xs → i < length list → set (take i xs ++ drop i list) i (get_or xs i 0) ≡ take (i + 1) xs ++ drop (i + 1) list
-  copy_more i h g =
-      rw (add-one i, drop-cons list i 0 g, take-suc xs i 0 h)
-      (set_at (take i xs) (get_or list i 0) (drop (suc i) list) (get_or xs i 0) i (length-take-le i xs (omega arith))
-      ∙ sym (append_snoc (take i xs) (get_or xs i 0) (drop (suc i) list)))
-
-  pub copy_length : (i : ℕ) → i ≤ length xs → i ≤ length list → length (take i xs ++ drop i list) ≡ length list
-  copy_length i h g = rw (length-append, length-take-le i xs h, length-drop) (omega arith)
-
-  pub copy_all : (n : ℕ) → n ≤ length xs → take n xs ++ drop n list ≡ onto (take n xs) list
-  unfolding onto
-  copy_all n h = rw (length-take-le n xs h)
 
 pub kept_length : (xs ks : List ℕ) (n : ℕ) → n ≤ length xs → take n xs ≡ ks → n ≡ length ks
 kept_length xs ks n h e = sym (length-take-le n xs h) ∙ ap length e
 
-pub listed_is : (ks list : List ℕ) {n : ℕ} {t out : List ℕ} → n ≡ length ks → t ≡ ks → out ≡ onto t list
-    → ◌≡◌ {A = Listed × List ℕ} (record { number = 0; count = n }, out) (list_of ks list)
-listed_is ks list e g h = rw (e, h, g)
+pub listed_is : (ks list : List ℕ) {n : ℕ} {t : List ℕ} → n ≡ length ks → t ≡ ks → ◌≡◌ {A = Told ℕ × List ℕ} (done n, t ++ drop n list) (list_of ks list)
+unfolding onto
+listed_is ks list e g = rw (e, g)
 
 pub exact_done : (lead many : ℕ) (coherent noncoherent crcs others list : List ℕ) → length coherent ≡ 1152 → length noncoherent ≡ 1152 → length crcs ≡ many
     → length others ≡ many → length list ≡ many

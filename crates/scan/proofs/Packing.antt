@@ -7,6 +7,7 @@
 -- Assumes nothing.
 use Rattle.std.proofs.Common.{◌≡◌, ℕ, zero, suc, ◌+◌, ◌*◌, ◌%◌, ◌<◌, ◌≤◌, List, length, get_or, sym, ap, ◌∙◌, mod-eq_of_lt, add-one, arith, eq-eqb, le-leb}
 use lib.Bits.{bit_or, or_shifted}
+use Rattle.lists.specs.Told.{done}
 use Rattle.lists.specs.Bits.{bit_at, value, packed}
 use Rattle.lists.proofs.Table.{get_d_tabulate}
 use Rattle.lists.proofs.Bits.{value_lt, value_same, bit_at_packed}
@@ -76,6 +77,6 @@ pub lane_done : (bits : List ℕ) (t : ℕ) (out : List ℕ) → length bits ≡
 unfolding lane_into
 lane_done bits t out a b c = simp (eq-eqb _ _ a, eq-eqb _ _ b, le-leb _ _ c)
 
-pub byte_done : (bits : List ℕ) (p : ℕ) → length bits ≡ 1152 → p ≤ 1095 → first_byte bits p ≡ record { number = 0; byte = byte_from bits p }
+pub byte_done : (bits : List ℕ) (p : ℕ) → length bits ≡ 1152 → p ≤ 1095 → first_byte bits p ≡ done (byte_from bits p)
 unfolding first_byte
 byte_done bits p a b = simp (eq-eqb _ _ a, le-leb _ _ b)

@@ -2,17 +2,22 @@
 --     step_is                    a step, as the code computes it
 --     crc_next                   a remainder from that eight samples before it
 --     crc_lt                     a remainder is below 2^24
+--     span                       the messages of a kind end within the window
 -- Assumes nothing.
 use Rattle.std.proofs.Common.{◌≡◌, ℕ, zero, suc, ◌+◌, ◌*◌, ◌/◌, ◌%◌, ◌^◌, ◌<◌, List, get_or, replicate, sym, refl, ap, ◌∙◌, subst, add-zero, mod-eq_of_lt, one-mul, zero-mul, arith, lit<}
 use mathlib.Core.Path.{fun_ext}
 use lib.Bits.{bit_xor, bit_and, xor_zero_r, and_comm, and_zero_r, and_mask}
 use Rattle.lists.specs.Bits.{packed}
+use Rattle.annex10.specs.declared.MessageKind.{MessageKind}
+use Rattle.annex10.specs.declared.MessageKind.TheVariants.{Short, Long}
+use Rattle.annex10.specs.Length.{message_bytes}
 use Rattle.annex10.specs.Remainder.{generator, less, bring, divide, remainder}
 use Rattle.annex10.proofs.Linear.{remainder_lt}
 use Rattle.annex10.proofs.Bytewise.{shift}
 use Rattle.annex10.proofs.Rolling.{rolled}
+use Rattle.place.specs.All.{last_bit}
 use Rattle.scan.specs.Flat.{message_from, crc_in}
-use Rattle.scan.specs.Inner.{Digits, leaving_power, next}
+use Rattle.scan.specs.Inner.{Digits, Span, leaving_power, next}
 
 -- a word of ones or zeros takes a number or nothing
 taken : (b x : ℕ) → b < 2 → x < 2 ^ 32 → bit_and (b * 0xffffffff) x ≡ b * x
@@ -80,3 +85,7 @@ crc_next n power bits p d i {crc} {r} e h =
     ∙ ap (bit_xor (bit_xor (bring (remainder (packed n (λ (j : ℕ). f (0 + j)))) 0) (divide (f (0 + 8 * n)) (replicate 24 0)))) (ap (λ (x : ℕ). f 0 * x) p ∙ leaves n (f 0) (d.each (8 + i + 8 * 0)))
     ∙ sym (rolled f (λ k. d.each (8 + i + 8 * k)) n 0)
     ∙ there
+
+pub span : (kind : MessageKind) → Span (message_bytes kind) (8 * last_bit kind)
+span Short = record { bytes = omega arith; row = omega arith; ends = omega arith }
+span Long = record { bytes = omega arith; row = omega arith; ends = omega arith }

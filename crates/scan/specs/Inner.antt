@@ -1,6 +1,6 @@
 -- What private functions compute: no public contract cites it.
 -- Assumes nothing.
-use Rattle.std.specs.Prelude.{◌≡◌, ℕ, zero, suc, ◌+◌, ◌*◌, ◌<◌, ◌≤◌, Bool, cond, ◌||◌, List, length, get_or, replicate, ◌==◌, bit_or, bit_xor, nat_lt, slice_index, slice_index_or, Float}
+use Rattle.std.specs.Prelude.{◌≡◌, ℕ, ◌+◌, ◌*◌, ◌<◌, ◌≤◌, Bool, cond, ◌||◌, List, fold, length, get_or, replicate, ◌==◌, bit_or, bit_xor, nat_lt, slice_index, slice_index_or, Float}
 use Rattle.std.specs.Float.{nan}
 use Rattle.std.specs.Float.Ieee.{lt}
 use Rattle.lists.specs.From.{tabulate}
@@ -63,10 +63,9 @@ pub record Marks (many : ℕ) (marks : List ℕ) : Type 0 where
 unfoldable pub marked : List ℕ → ℕ → Bool
 marked marks k = slice_index marks (lane_of k) == 1
 
--- the first n marks, joined: 0 where none is set
-unfoldable pub any_of : List ℕ → ℕ → ℕ
-any_of marks zero = 0
-any_of marks (suc n) = bit_or (any_of marks n) (slice_index marks n)
+-- the marks, joined: 0 where none is set
+abbrev pub any_of : List ℕ → ℕ
+any_of marks = fold bit_or 0 marks
 
 -- the marks of the exact places
 unfoldable pub exact_mark : ℕ → List ℕ → List ℕ → List ℕ → List ℕ → ℕ → ℕ

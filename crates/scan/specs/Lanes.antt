@@ -2,7 +2,7 @@
 -- Assumes nothing.
 use Rattle.std.specs.Prelude.{ℕ, ◌+◌, ◌*◌, ◌%◌, cond, List, length, ◌==◌, nat_le, slice_index}
 use Rattle.lists.specs.Bits.{value, packed}
-use Rattle.scan.specs.declared.stream.FirstByte.{FirstByte}
+use Rattle.lists.specs.Told.{Told, done, refused}
 
 -- bit j of lane t: of a number that is no bit the lowest
 unfoldable pub lane_bit : List ℕ → ℕ → ℕ → ℕ
@@ -27,9 +27,9 @@ unfoldable pub byte_from : List ℕ → ℕ → ℕ
 byte_from bits p = value (lane_bit bits p) 0 8
 
 -- 1,152 bits, else 2; the last bit of the byte is one of them, else 7
-unfoldable pub first_byte : List ℕ → ℕ → FirstByte
+unfoldable pub first_byte : List ℕ → ℕ → Told ℕ
 first_byte bits p =
     cond (length bits == 1152)
-    (cond (nat_le p 1095) (record { number = 0; byte = byte_from bits p })
-    (record { number = 7; byte = 0 }))
-    (record { number = 2; byte = 0 })
+    (cond (nat_le p 1095) (done (byte_from bits p))
+    (refused 7))
+    (refused 2)

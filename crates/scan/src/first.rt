@@ -13,8 +13,8 @@ fn bytes_at(i: usize, bits: &[u8]) -> [u8; 8]
 {
     let mut bytes = [0u8; 8];
     for j in 0..8 {
-        for t in 0..8 {
-            bytes[t] = (bytes[t] << 1) | bits[64 * i + 8 * j + 8 + t];
+        for (t, byte) in bytes.iter_mut().enumerate() {
+            *byte = (*byte << 1) | bits[64 * i + 8 * j + 8 + t];
         }
     }
     bytes
@@ -25,14 +25,15 @@ pub fn first_row(n: usize, bits: &[u8], crcs: &mut [u32])
     requires { (n ≤ 14) × Digits bits.now × (8 ≤ length crcs.old) }
     ensures { Done 0 (crc_in n bits.now) (length crcs.old) crcs.new 8 }
 {
-    let mut r = [0u32; 8];
+    let mut row = [0u32; 8];
     for i in 0..n {
         let bytes = bytes_at(i, bits);
-        for t in 0..8 {
-            r[t] = bring_byte(r[t], bytes[t]);
+        for (t, crc) in row.iter_mut().enumerate() {
+            *crc = bring_byte(*crc, bytes[t]);
         }
     }
-    for t in 0..8 {
-        crcs[t] = r[t];
+    // One by one: a copy of the slice at once would keep the lanes above from being done side by side.
+    for (t, crc) in row.iter().enumerate() {
+        crcs[t] = *crc;
     }
 }

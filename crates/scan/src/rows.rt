@@ -7,6 +7,7 @@ pub fn find_rows(sums: &[f32], reals: &mut [f32], norms: &mut [f32])
     requires { (length sums.now ≡ 2304) × (length reals.old ≡ 1152) × (length norms.old ≡ 1152) }
     ensures { (reals.new ≡ reals_of sums.now) × (norms.new ≡ norms_of sums.now) }
 {
+    // By index: two arrays are written from pairs of a third.
     for i in 0..1152 {
         let re = sums[2 * i];
         let im = sums[2 * i + 1];

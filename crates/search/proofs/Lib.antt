@@ -4,3 +4,4 @@ pub mod Choosing
 pub mod Staging
 pub mod Marks
 pub mod Locating
+pub mod Told

@@ -3,6 +3,7 @@
 use Rattle.std.specs.Prelude.{◌&&◌, cond, List, ℕ, ◌^◌, eqb, leb, length, replicate, Float}
 use Rattle.std.proofs.Math.Option.{Option, none, some}
 use Rattle.std.specs.Float.Ieee.Scale.{finite}
+use Rattle.lists.specs.Told.{Told, tell}
 use Rattle.floats.specs.Numbers.{zero_f}
 use Rattle.annex10.specs.declared.Repairs.TheVariants.{None}
 use Rattle.place.specs.declared.Place.{Place}
@@ -13,7 +14,6 @@ use Rattle.place.specs.All.{listed}
 use Rattle.place.specs.Agrees.{location_number}
 use Rattle.search.specs.declared.Settings.{Settings}
 use Rattle.search.specs.declared.Candidate.{Candidate}
-use Rattle.search.specs.declared.Survivor.{Survivor}
 use Rattle.search.specs.declared.Arrival.{Arrival}
 use Rattle.search.specs.declared.Answer.{Answer}
 use Rattle.search.specs.Choice.{candidate_at, best}
@@ -76,6 +76,11 @@ refused_answer kind n =
 
 -- ---- answers
 
+-- the surviving reading of a place, or of all places: number 0 with it, 1 with zeros where there is none, else a refusal's number with zeros
+pub record Survivor : Type 0 where
+  pub number : ℕ
+  pub candidate : Candidate
+
 -- what is found, with its number: 1 where it is nothing
 abbrev pub survivor_of : Kind → Option Candidate → Survivor
 survivor_of kind none = record { number = 1; candidate = no_candidate kind }
@@ -96,13 +101,11 @@ unfoldable pub best_of : Kind → List Float → Settings → Survivor
 best_of kind samples s = survivor_or kind (or_number (window_number samples) (settings_number s)) (best kind s (seen kind samples))
 
 -- when a message at a location came
-unfoldable pub arrival_at : Kind → List Float → Location → List ℕ → ℕ → Arrival
+unfoldable pub arrival_at : Kind → List Float → Location → List ℕ → ℕ → Told Arrival
 arrival_at kind samples l message index =
-    let n = or_number (window_number samples) (or_number (index_number index) (searched_number kind l)) in
     let t = timing_at (seen kind samples) message l in
-    cond (eqb n 0)
-    (record { number = 0; index = index_of index (sample_start l.place) t.moves; fraction = t.fraction })
-    (record { number = n; index = 0; fraction = zero_f })
+    tell (or_number (window_number samples) (or_number (index_number index) (searched_number kind l)))
+    (record { index = index_of index (sample_start l.place) t.moves; fraction = t.fraction })
 
 -- a candidate with its time
 unfoldable pub answer_of : Kind → List Float → ℕ → Candidate → Answer

@@ -6,3 +6,4 @@ pub mod Seen
 pub mod When
 pub mod Answers
 pub mod Short
+pub mod Told

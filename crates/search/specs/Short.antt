@@ -1,11 +1,11 @@
 -- The answers of the short search. An array's length makes a type of its own; what is answered is said by the definitions of both kinds.
 -- Assumes nothing.
+use Rattle.std.specs.Prelude.{ℕ}
 use Rattle.search.specs.declared.Candidate.{Candidate}
-use Rattle.search.specs.declared.Survivor.{Survivor}
 use Rattle.search.specs.declared.Answer.{Answer}
 use Rattle.search.specs.declared.ShortCandidate.{ShortCandidate}
-use Rattle.search.specs.declared.ShortSurvivor.{ShortSurvivor}
 use Rattle.search.specs.declared.ShortAnswer.{ShortAnswer}
+use Rattle.search.specs.Answers.{Survivor}
 
 -- the same fields
 abbrev pub short_candidate : Candidate → ShortCandidate
@@ -17,6 +17,10 @@ short_candidate c =
       cn0 = c.cn0;
       undecided = c.undecided;
     }
+
+pub record ShortSurvivor : Type 0 where
+  pub number : ℕ
+  pub candidate : ShortCandidate
 
 abbrev pub short_survivor : Survivor → ShortSurvivor
 short_survivor x = record { number = x.number; candidate = short_candidate x.candidate }

@@ -1,19 +1,22 @@
 -- Laws of a lent hash, which may hold any numbers.
---     fits_own, fits_lent, fits_not, fits_both     its size
+--     Differ, not_both                 one of two numbers is another
+--     fits_none, fits_all, fits_not    its size
+--     rest                             the rest of a list, as the code takes it
 --     shaped_one, shaped_two           its parts have a slot for each remainder
 --     asked_one, asked_two, asked_own, length_asked   what is asked, by what is lent
 --     get_d_asks                        of the remainder at a place
---     sifted_lent, lent_one, lent_two, lent_none   what the parts give
---     sieved_not, sieved_as, sieved_done           the answer
+--     sifted_part                      what a part gives
+--     sieved_not, not_inputs, not_outputs, not_level, sieved_done   the answer
 --     written                          all parts in lent memory
 -- Assumes nothing.
-use Rattle.std.proofs.Common.{◌≡◌, ℕ, ◌+◌, ◌-◌, ◌*◌, ◌^◌, ◌<◌, ◌≤◌, min, Bool, true, false, cond, ◌&&◌, ◌||◌, eqb, List, [], ◌++◌, map, length, get_or, take, drop, sym, refl, ap, ◌∙◌, true≢false, append_assoc, append-nil, le_refl, arith, length-append, length-drop, drop_of_length-le, length-take-le, get_or-drop, take_all, get_or-take, drop-drop, take_at, drop_at, eq-eqb, ne_eqb, eqb-true}
+use Rattle.std.proofs.Common.{◌≡◌, ℕ, ◌+◌, ◌-◌, ◌*◌, ◌^◌, ◌<◌, ◌≤◌, min, Bool, true, false, cond, ◌&&◌, ◌⊎◌, inl, inr, eqb, List, [], ◌++◌, map, length, get_or, take, drop, sym, refl, ap, ◌∙◌, append_assoc, append-nil, le_refl, arith, length-append, length-drop, drop_of_length-le, length-take-le, get_or-drop, take_all, get_or-take, drop-drop, take_at, drop_at, eq-eqb, ne_eqb}
+use borrow.Author.Tests.{lt-leb}
 use borrow.Rule.Slice.PartMut.{put_mid}
 use lib.ListN.{length-map, get_or-map}
+use Rattle.lists.specs.Told.{Told, refused}
 use Rattle.lists.proofs.Test.{or_none}
 use Rattle.annex10.proofs.UpTo.{zero_gone, gone_high}
 use Rattle.repairs.specs.Codes.{code_up_to}
-use Rattle.scan.specs.declared.list.Listed.{Listed}
 use Rattle.scan.specs.Sieve.{kept, lane_of}
 use Rattle.sieve.specs.declared.hash.Shape.{Shape}
 use Rattle.sieve.specs.Repairable.{repairable, repairable_at, refused_in, repairable_in, repairable_into}
@@ -21,37 +24,33 @@ use Rattle.sieve.specs.Tables.{one_displacements, one_owners, one_positions, two
 use Rattle.sieve.specs.Hash.{at_one, at_two, lets, asks, hash_displacements, hash_owners, hash_into, hash_fits, asked_in, sieved_into}
 use Rattle.sieve.specs.Inner.{let_in, Shaped, Gathered, Sifted}
 use Rattle.sieve.proofs.Clears.{apart, rep_none}
+use Rattle.sieve.proofs.Owning.{shaped_by}
 use Rattle.sieve.proofs.Picking.{into_done}
 
 -- ---- its size
 
-pub fits_own : (ds os : List ℕ) → length ds ≡ 0 → eqb (length os) 0 ≡ hash_fits ds os
-unfolding hash_fits
-fits_own ds os e = rw e (go (eqb (length os) 0))
-  where
-    go : (t : Bool) → t ≡ (true && t) || (false && eqb (length os) 8704)
-    go true = refl
-    go false = refl
+-- one of two numbers is another, as a chain of two tests finds it
+abbrev pub Differ : ℕ → ℕ → ℕ → ℕ → Type 0
+Differ m n k l = (m ≡ n → ⊥) ⊎ ((m ≡ n) × (k ≡ l → ⊥))
 
-pub fits_lent : (ds os : List ℕ) → length ds ≡ 2688 → eqb (length os) 8704 ≡ hash_fits ds os
-unfolding hash_fits
-fits_lent ds os e = rw e
+pub not_both : (m n k l : ℕ) → Differ m n k l → (eqb m n && eqb k l) ≡ false
+not_both m n k l (inl e) = rw (ne_eqb m n e)
+not_both m n k l (inr (e, g)) = rw (eq-eqb m n e, ne_eqb k l g)
 
-pub fits_not : (ds os : List ℕ) → (length ds ≡ 0 → ⊥) → (length ds ≡ 2688 → ⊥) → false ≡ hash_fits ds os
+pub fits_not : (ds os : List ℕ) → Differ (length ds) 0 (length os) 0 → Differ (length ds) 2688 (length os) 8704 → hash_fits ds os ≡ false
 unfolding hash_fits
-fits_not ds os p q = rw (ne_eqb (length ds) 0 p, ne_eqb (length ds) 2688 q)
+fits_not ds os p q = rw (not_both (length ds) 0 (length os) 0 p, not_both (length ds) 2688 (length os) 8704 q)
 
-pub fits_both : (ds os : List ℕ) → hash_fits ds os ≡ true → length os ≡ 8704 → length ds ≡ 2688
+pub fits_none : (ds os : List ℕ) → length ds ≡ 0 → length os ≡ 0 → hash_fits ds os ≡ true
 unfolding hash_fits
-fits_both ds os h e = eqb-true (length ds) 2688 (go (eqb (length ds) 0) (eqb (length ds) 2688) (rw e at h))
-  where
-    go : (s t : Bool) → (s && false) || (t && true) ≡ true → t ≡ true
-    go s true q = refl
-    go true false q = absurd (true≢false (sym q))
-    go false false q = absurd (true≢false (sym q))
+fits_none ds os e g = rw (e, g)
+
+pub fits_all : (ds os : List ℕ) → length ds ≡ 2688 → length os ≡ 8704 → hash_fits ds os ≡ true
+unfolding hash_fits
+fits_all ds os e g = rw (e, g)
 
 -- the rest of a list, as the code takes it
-rest : (n : ℕ) (xs : List ℕ) → take (length xs - n) (drop n xs) ≡ drop n xs
+pub rest : (n : ℕ) (xs : List ℕ) → take (length xs - n) (drop n xs) ≡ drop n xs
 rest n xs = take_all (length xs - n) (drop n xs) (omega (arith, length-drop n xs))
 
 module _ (ds os : List ℕ) (a : length ds ≡ 2688) (b : length os ≡ 8704) (near : (i : ℕ) → get_or ds i 0 < 256) where
@@ -59,32 +58,16 @@ module _ (ds os : List ℕ) (a : length ds ≡ 2688) (b : length os ≡ 8704) (n
   shaped_one =
       let l : length (take 128 ds) ≡ 128 = length-take-le 128 ds (omega arith) in
       let m : length (take 512 os) ≡ 512 = length-take-le 512 os (omega arith) in
-      record {
-        small = omega arith;
-        few = omega arith;
-        bits = 9;
-        width = omega arith;
-        near = λ i h. rw (get_or-take 128 ds i 0 (omega arith)) (omega (arith, near i));
-        many = omega arith;
-        room = omega arith;
-      }
+      shaped_by at_one (take 128 ds) (take 512 os) 9 (omega arith) (omega arith) (omega arith)
+      (λ i h. rw (get_or-take 128 ds i 0 (omega arith)) (omega (arith, near i))) (omega arith)
 
-  pub shaped_two : Shaped at_two (take 2048 (drop 128 ds)) (take (length os - 512) (drop 512 os))
-  shaped_two = rw (rest 512 os) shaped
-    where
-      shaped : Shaped at_two (take 2048 (drop 128 ds)) (drop 512 os)
-      shaped =
-          let l : length (take 2048 (drop 128 ds)) ≡ 2048 = length-take-le 2048 (drop 128 ds) (omega (arith, length-drop 128 ds)) in
-          let m : length (drop 512 os) ≡ 8192 = length-drop 512 os ∙ omega arith in
-          record {
-            small = omega arith;
-            few = omega arith;
-            bits = 13;
-            width = omega arith;
-            near = λ i h. rw (get_or-take 2048 (drop 128 ds) i 0 (omega arith), get_or-drop 128 ds i 0) (omega (arith, near (128 + i)));
-            many = omega arith;
-            room = omega arith;
-          }
+  pub shaped_two : {o : List ℕ} → o ≡ drop 512 os → Shaped at_two (take 2048 (drop 128 ds)) o
+  shaped_two e =
+      let l : length (take 2048 (drop 128 ds)) ≡ 2048 = length-take-le 2048 (drop 128 ds) (omega (arith, length-drop 128 ds)) in
+      let m : length (drop 512 os) ≡ 8192 = length-drop 512 os ∙ omega arith in
+      rw e
+      (shaped_by at_two (take 2048 (drop 128 ds)) (drop 512 os) 13 (omega arith) (omega arith) (omega arith)
+      (λ i h. rw (get_or-take 2048 (drop 128 ds) i 0 (omega arith), get_or-drop 128 ds i 0) (omega (arith, near (128 + i)))) (omega arith))
 
 -- ---- what is asked
 
@@ -141,7 +124,7 @@ module _ (s : Shape) (d o : List ℕ) where
       let (p, q) = or_none (lets s d o x) (lets s d o y) e in
       rw (get_d_asks crcs (lane_of k), get_d_asks others (lane_of k), asks_gone n level x h p, asks_gone n level y h q)
 
-  pub sifted_lent : (level many : ℕ) (crcs others through asked : List ℕ) (n : ℕ) → n ≤ many → length through ≡ many
+  sifted_lent : (level many : ℕ) (crcs others through asked : List ℕ) (n : ℕ) → n ≤ many → length through ≡ many
       → take n through ≡ kept (let_in s d o crcs others) many → Gathered many s d o crcs others through asked n
       → Sifted level many (map (asks s d o) crcs) (map (asks s d o) others) through asked n
   sifted_lent level many crcs others through asked n h e q g =
@@ -156,27 +139,12 @@ module _ (s : Shape) (d o : List ℕ) where
         second = λ bytes m b l. ap (code_up_to bytes level) (g.second m l ∙ sym (get_d_asks others (lane_of (get_or through m 0))));
       }
 
--- by the part of the level, and where nothing is lent
-module _ (level many : ℕ) (ds os crcs others through asked : List ℕ) (n : ℕ) where
-  pub lent_one : length os ≡ 8704 → level ≡ 1 → n ≤ many → length through ≡ many
-      → take n through ≡ kept (let_in at_one (take 128 ds) (take 512 os) crcs others) many
-      → Gathered many at_one (take 128 ds) (take 512 os) crcs others through asked n
-      → Sifted level many (asked_in level ds os crcs) (asked_in level ds os others) through asked n
-  lent_one e l h g q w =
-      rw (asked_one level ds os e l crcs, asked_one level ds os e l others)
-      (sifted_lent at_one (take 128 ds) (take 512 os) level many crcs others through asked n h g q w)
-
-  pub lent_two : length os ≡ 8704 → (level ≡ 1 → ⊥) → n ≤ many → length through ≡ many
-      → take n through ≡ kept (let_in at_two (take 2048 (drop 128 ds)) (take (length os - 512) (drop 512 os)) crcs others) many
-      → Gathered many at_two (take 2048 (drop 128 ds)) (take (length os - 512) (drop 512 os)) crcs others through asked n
-      → Sifted level many (asked_in level ds os crcs) (asked_in level ds os others) through asked n
-  lent_two e l h g q w =
-      rw (asked_two level ds os e l crcs, asked_two level ds os e l others)
-      (sifted_lent at_two (take 2048 (drop 128 ds)) (drop 512 os) level many crcs others through asked n h g (rw (rest 512 os) at q) (rw (rest 512 os) at w))
-
-  pub lent_none : {l : ℕ} → (length os ≡ 8704 → ⊥) → level ≡ l → Sifted l many crcs others through asked n
-      → Sifted level many (asked_in level ds os crcs) (asked_in level ds os others) through asked n
-  lent_none e h w = rw (asked_own level ds os e crcs, asked_own level ds os e others) (rw h w)
+-- by the part of the level
+pub sifted_part : (level many : ℕ) (crcs others through asked xs ys : List ℕ) (n : ℕ) (s : Shape) (d o : List ℕ) → xs ≡ map (asks s d o) crcs
+    → ys ≡ map (asks s d o) others → n ≤ many → length through ≡ many → take n through ≡ kept (let_in s d o crcs others) many
+    → Gathered many s d o crcs others through asked n → Sifted level many xs ys through asked n
+sifted_part level many crcs others through asked xs ys n s d o e g h l q w =
+    rw (e, g) (sifted_lent s d o level many crcs others through asked n h l q w)
 
 -- ---- the answer
 
@@ -185,14 +153,48 @@ module _ (bytes most many level : ℕ) (ds os crcs others list codes : List ℕ)
   unfolding sieved_into
   sieved_not f = rw f
 
-  pub sieved_as : {z : Listed × List ℕ × List ℕ} → hash_fits ds os ≡ true
+  sieved_as : {z : Told ℕ × List ℕ × List ℕ} → hash_fits ds os ≡ true
       → z ≡ repairable_into bytes most many level (asked_in (min level most) ds os crcs) (asked_in (min level most) ds os others) list codes
       → z ≡ sieved_into bytes most many level ds os crcs others list codes
   unfolding sieved_into
   sieved_as f e = e ∙ rw f
 
+  pub not_inputs : hash_fits ds os ≡ true → Differ (length crcs) many (length others) many
+      → (refused 2, list, codes) ≡ sieved_into bytes most many level ds os crcs others list codes
+  unfolding repairable_into
+  not_inputs f e = sieved_as f (rw (length_asked (min level most) ds os crcs, length_asked (min level most) ds os others, not_both (length crcs) many (length others) many e))
+
+  module _ (f : hash_fits ds os ≡ true) (a : length crcs ≡ many) (b : length others ≡ many) where
+    pub not_outputs : Differ (length list) many (length codes) (2 * many)
+        → (refused 3, list, codes) ≡ sieved_into bytes most many level ds os crcs others list codes
+    unfolding repairable_into
+    not_outputs e =
+        sieved_as f
+        (rw (
+          length_asked (min level most) ds os crcs,
+          length_asked (min level most) ds os others,
+          eq-eqb (length crcs) many a,
+          eq-eqb (length others) many b,
+          not_both (length list) many (length codes) (2 * many) e,
+        ))
+
+    pub not_level : length list ≡ many → length codes ≡ 2 * many → 2 < level
+        → (refused 4, list, codes) ≡ sieved_into bytes most many level ds os crcs others list codes
+    unfolding repairable_into
+    not_level c d h =
+        sieved_as f
+        (rw (
+          length_asked (min level most) ds os crcs,
+          length_asked (min level most) ds os others,
+          eq-eqb (length crcs) many a,
+          eq-eqb (length others) many b,
+          eq-eqb (length list) many c,
+          eq-eqb (length codes) (2 * many) d,
+          lt-leb level 2 h,
+        ))
+
   -- where nothing is refused
-  pub sieved_done : (n : ℕ) (x : Listed) (ls cs : List ℕ) → hash_fits ds os ≡ true
+  pub sieved_done : (n : ℕ) (x : Told ℕ) (ls cs : List ℕ) → hash_fits ds os ≡ true
       → length crcs ≡ many → length others ≡ many → length list ≡ many → length codes ≡ 2 * many → level ≤ 2 → n ≡ min level most
       → (x, ls, cs) ≡ repairable_in bytes n many (asked_in n ds os crcs) (asked_in n ds os others) list codes
       → (x, ls, cs) ≡ sieved_into bytes most many level ds os crcs others list codes

@@ -6,4 +6,3 @@ pub mod Owned
 pub mod Picking
 pub mod Asking
 pub mod Lent
-pub mod Naming

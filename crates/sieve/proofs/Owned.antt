@@ -1,6 +1,5 @@
 -- The two hashes of specs/Tables keep their rule: their tests are computed here.
 -- Assumes nothing.
-use Rattle.std.proofs.Common.{◌≡◌, ℕ, List}
 use Rattle.lists.proofs.Tree.{grow}
 use Rattle.annex10.proofs.Singles.{singles, singles_from}
 use Rattle.sieve.specs.Tables.{one_displacements, one_owners, two_displacements, two_owners}
@@ -16,6 +15,3 @@ one_owners_law = owner_law 1 15 7 9 16 one_displacements one_owners tt
 pub two_owners_law : Owners 2 at_two two_displacements two_owners
 unfolding owner_rule sizes below_n read stands owns single_owns pair_owns pairs_own all_own grow singles singles_from two_displacements two_owners
 two_owners_law = owner_law 2 11 11 13 12 two_displacements two_owners tt
-
-pub two_owners_as : {ds os : List ℕ} → ds ≡ two_displacements → os ≡ two_owners → Owners 2 at_two ds os
-two_owners_as e g = rw (e, g) two_owners_law

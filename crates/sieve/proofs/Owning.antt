@@ -1,13 +1,12 @@
 -- Laws of the hash that only lets through.
 --     owner_law               its rule, by one computed test over both tables
---     slot_lt, index_lt       a remainder's slot is there, and its displacement
---     lets_hit, lets_miss, asks_let, asks_not   in the code's own words
+--     shaped_by               a hash of so many bits has a slot for each remainder
 --     lets_gone, asks_same    what is not let through no such number of positions of 14 bytes or fewer clears, and 2^24 is asked in its place
 --     let_bit, let_places     the two remainders of a place
 -- Assumes nothing.
-use Rattle.std.proofs.Common.{◌≡◌, ℕ, zero, suc, ◌+◌, ◌-◌, ◌*◌, ◌/◌, ◌%◌, ◌^◌, ◌<◌, ◌≤◌, Bool, true, false, cond, ◌||◌, T, eqb, ltb, leb, List, length, get_or, sym, refl, ap, ◌∙◌, subst, lt_trans, le_refl, lt_of_lt_of_le, lt_of_le_of_lt, arith, eqb→eq, ltb→lt, leb→le, pow_pos, eq-eqb, ne_eqb, eqb-true}
+use Rattle.std.proofs.Common.{◌≡◌, ℕ, zero, suc, ◌+◌, ◌-◌, ◌*◌, ◌/◌, ◌%◌, ◌^◌, ◌<◌, ◌≤◌, Bool, true, false, cond, ◌||◌, T, eqb, ltb, leb, List, length, get_or, sym, refl, ap, ◌∙◌, subst, lt_trans, le_refl, lt_of_lt_of_le, lt_of_le_of_lt, arith, eqb→eq, ltb→lt, leb→le, pow_pos, eqb-true}
 use borrow.Author.Tests.{eqb-false}
-use lib.Bits.{bit_xor, bit_and, bit_or, xor_lt, and_mask, and_le_r}
+use lib.Bits.{bit_xor, bit_and, xor_lt, and_mask, and_le_r}
 use Rattle.lists.specs.Bits.{as_bit}
 use Rattle.lists.proofs.Test.{or_none, both, both_left, both_right, all_below, below, every, at}
 use Rattle.lists.proofs.Tree.{Tree, grow}
@@ -22,7 +21,7 @@ use Rattle.annex10.proofs.UpTo.{up_to_none, none_not_zero, gone_high}
 use Rattle.repairs.specs.Codes.{code_up_to}
 use Rattle.sieve.specs.declared.hash.Shape.{Shape}
 use Rattle.scan.specs.Sieve.{lane_of}
-use Rattle.scan.proofs.Keeping.{or_bits, lane_is}
+use Rattle.scan.proofs.Keeping.{lane_is}
 use Rattle.sieve.specs.Repairable.{repairable_at}
 use Rattle.sieve.specs.Hash.{slot_of, lets, asks}
 use Rattle.sieve.specs.Inner.{let_in, Shaped, Owners}
@@ -59,7 +58,7 @@ all_own level n k b l ss ds os = both (all_below 112 (single_owns n k b l ss ds 
 
 unfoldable pub sizes : ℕ → ℕ → ℕ → List ℕ → List ℕ → Bool
 sizes n k b d o =
-    both (ltb n 32) (both (leb 256 (2 ^ b)) (both (leb (2 ^ b) 65536) (both (eqb (length d) (2 ^ k)) (eqb (length o) (2 ^ b)))))
+    both (ltb n 32) (both (leb 256 (2 ^ b)) (both (eqb (length d) (2 ^ k)) (eqb (length o) (2 ^ b))))
 
 unfoldable pub owner_rule : ℕ → ℕ → ℕ → ℕ → ℕ → List ℕ → List ℕ → List ℕ → Bool
 owner_rule level n k b l ss d o =
@@ -126,7 +125,6 @@ module _ (level n k b l : ℕ) (d o : List ℕ) where
 record Sizes (n k b : ℕ) (d o : List ℕ) : Type 0 where
   shift : n < 32
   wide : 256 ≤ 2 ^ b
-  room : 2 ^ b ≤ 65536
   few : length d ≡ 2 ^ k
   many : length o ≡ 2 ^ b
 
@@ -135,18 +133,30 @@ unfolding sizes
 sized n k b d o t =
     let x = ltb n 32 in
     let y = leb 256 (2 ^ b) in
-    let v = leb (2 ^ b) 65536 in
     let z = eqb (length d) (2 ^ k) in
     let w = eqb (length o) (2 ^ b) in
-    let t1 = both_right x (both y (both v (both z w))) t in
-    let t2 = both_right y (both v (both z w)) t1 in
-    let t3 = both_right v (both z w) t2 in
+    let t1 = both_right x (both y (both z w)) t in
+    let t2 = both_right y (both z w) t1 in
     record {
-      shift = ltb→lt n 32 (both_left x (both y (both v (both z w))) t);
-      wide = leb→le 256 (2 ^ b) (both_left y (both v (both z w)) t1);
-      room = leb→le (2 ^ b) 65536 (both_left v (both z w) t2);
-      few = eqb→eq (length d) (2 ^ k) (both_left z w t3);
-      many = eqb→eq (length o) (2 ^ b) (both_right z w t3);
+      shift = ltb→lt n 32 (both_left x (both y (both z w)) t);
+      wide = leb→le 256 (2 ^ b) (both_left y (both z w) t1);
+      few = eqb→eq (length d) (2 ^ k) (both_left z w t2);
+      many = eqb→eq (length o) (2 ^ b) (both_right z w t2);
+    }
+
+-- a hash of so many bits has a slot for each remainder
+pub shaped_by : (s : Shape) (d o : List ℕ) (bits : ℕ) → s.shift < 32 → s.index < length d → s.slots < 2 ^ bits
+    → ((i : ℕ) → i < length d → get_or d i 0 < 2 ^ bits) → 2 ^ bits ≤ length o → Shaped s d o
+shaped_by s d o bits small few width near many =
+    record {
+      small = small;
+      few = few;
+      there = λ r.
+          let i = bit_and r s.index in
+          lt_of_lt_of_le
+          (xor_lt bits (bit_and (r / 2 ^ s.shift) s.slots) (get_or d i 0) (lt_of_le_of_lt (and_le_r (r / 2 ^ s.shift) s.slots) width)
+          (near i (lt_of_le_of_lt (and_le_r r s.index) few)))
+          many;
     }
 
 pub owner_law : (level n k b l : ℕ) (d o : List ℕ) → T (owner_rule level n k b l singles d o) → Owners level (shape_of n k b l) d o
@@ -154,15 +164,8 @@ unfolding owner_rule ds os below_n
 owner_law level n k b l d o t =
     record {
       shaped =
-          record {
-            small = s.shift;
-            few = omega (arith, s.few, pow_pos k);
-            bits = b;
-            width = omega (arith, pow_pos b);
-            near = λ i h. lt_of_lt_of_le (small i h) s.wide;
-            many = omega (arith, s.many);
-            room = s.room;
-          };
+          shaped_by (shape_of n k b l) d o b s.shift (omega (arith, s.few, pow_pos k)) (omega (arith, pow_pos b))
+          (λ i h. lt_of_lt_of_le (small i h) s.wide) (omega (arith, s.many));
       there = all_there level n k b l d o small small16 (both_right y z t2);
     }
   where
@@ -193,59 +196,16 @@ owner_law level n k b l d o t =
 -- ---- what it lets through
 
 module _ (s : Shape) (d o : List ℕ) where
-  slot_in : (w : Shaped s d o) (r : ℕ) → slot_of s d r < 2 ^ w.bits
-  slot_in w r =
-      let i = bit_and r s.index in
-      xor_lt w.bits (bit_and (r / 2 ^ s.shift) s.slots) (get_or d i 0)
-      (lt_of_le_of_lt (and_le_r (r / 2 ^ s.shift) s.slots) w.width)
-      (w.near i (lt_of_le_of_lt (and_le_r r s.index) w.few))
-
-  pub slot_lt : Shaped s d o → (r : ℕ) → slot_of s d r < length o
-  slot_lt w r = lt_of_lt_of_le (slot_in w r) w.many
-
-  pub slot_small : Shaped s d o → (r : ℕ) → slot_of s d r < 65536
-  slot_small w r = lt_of_lt_of_le (slot_in w r) w.room
-
-  pub index_lt : Shaped s d o → (r : ℕ) → bit_and r s.index < length d
-  index_lt w r = lt_of_le_of_lt (and_le_r r s.index) w.few
-
   -- what the slot of a remainder names
   abbrev owner : ℕ → ℕ
   owner r = bit_and (get_or o (slot_of s d r) 0) s.low
 
-  pub lets_hit : (r : ℕ) → owner r ≡ bit_and r s.low → 1 ≡ as_bit (lets s d o r)
-  unfolding lets
-  lets_hit r e = rw (eq-eqb (owner r) (bit_and r s.low) e)
-
-  pub lets_miss : (r : ℕ) → (owner r ≡ bit_and r s.low → ⊥) → 0 ≡ as_bit (lets s d o r)
-  unfolding lets
-  lets_miss r e = rw (ne_eqb (owner r) (bit_and r s.low) e)
-
-  -- what is asked, by the two tests
-  pub asks_let : (r : ℕ) {x : ℕ} → x ≡ as_bit (lets s d o r) → x ≡ 1 → r ≡ asks s d o r
-  unfolding asks
-  asks_let r e h = go (lets s d o r) (sym e ∙ h)
-    where
-      go : (t : Bool) → as_bit t ≡ 1 → r ≡ cond t r (cond (eqb r 0) 0 (2 ^ 24))
-      go true q = refl
-      go false q = absurd (omega arith)
-
-  pub asks_not : (r : ℕ) {x y : ℕ} → x ≡ as_bit (lets s d o r) → (x ≡ 1 → ⊥) → y ≡ cond (eqb r 0) 0 (2 ^ 24) → y ≡ asks s d o r
-  unfolding asks
-  asks_not r {x} {y} e h g = go (lets s d o r) (λ q. h (e ∙ q))
-    where
-      go : (t : Bool) → (as_bit t ≡ 1 → ⊥) → y ≡ cond t r (cond (eqb r 0) 0 (2 ^ 24))
-      go true q = absurd (q refl)
-      go false q = g
-
-  pub let_bit : (crcs others : List ℕ) (m k : ℕ) {a b : ℕ} → k < 8
-      → a ≡ as_bit (lets s d o (get_or crcs (8 * m + 4 * (k % 2) + k / 2) 0)) → b ≡ as_bit (lets s d o (get_or others (8 * m + 4 * (k % 2) + k / 2) 0))
-      → bit_or a b ≡ as_bit (let_in s d o crcs others (8 * m + k))
+  pub let_bit : (crcs others : List ℕ) (m k : ℕ) {a b : Bool} {n : ℕ} → k < 8
+      → a ≡ lets s d o (get_or crcs (8 * m + 4 * (k % 2) + k / 2) 0) → b ≡ lets s d o (get_or others (8 * m + 4 * (k % 2) + k / 2) 0)
+      → n ≡ as_bit (a || b) → n ≡ as_bit (let_in s d o crcs others (8 * m + k))
   unfolding let_in
-  let_bit crcs others m k h e g =
-      let i = 8 * m + 4 * (k % 2) + k / 2 in
-      rw (e, g) (or_bits (lets s d o (get_or crcs i 0)) (lets s d o (get_or others i 0))
-      ∙ ap (λ (x : ℕ). as_bit (lets s d o (get_or crcs x 0) || lets s d o (get_or others x 0))) (lane_is m k h))
+  let_bit crcs others m k h e g q =
+      q ∙ rw (e, g) (ap (λ (x : ℕ). as_bit (lets s d o (get_or crcs x 0) || lets s d o (get_or others x 0))) (lane_is m k h))
 
   module _ (level : ℕ) (w : Owners level s d o) where
     lets_none : (r : ℕ) → lets s d o r ≡ false → (m : ℕ) → 1 ≤ m → m ≤ level → clearing 14 m r ≡ Nothing

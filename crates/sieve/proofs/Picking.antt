@@ -1,72 +1,47 @@
--- What is gathered, told and kept of the places that were let through.
---     gathered_more           two more numbers are asked
+-- What is told and kept of the places that were let through.
 --     sifted                  what a hash of some level gives
---     told_by                 the codes of the first n, from those of a part
+--     told_front, told_by     the codes of the first n, from those of a part
 --     Kept, kept_taken, kept_left, kept_all   the loop that keeps
 --     through_within          the places that were let through are below their bound
 --     all_kept, none_kept     what is kept are the places that so many repairs can clear
 --     level_zero, into_done   the answer
---     bytes_few, most_few, at_most_short, at_most_long, at_most_some, told_short, told_long, told_lent   the two kinds
---     lent_short, lent_long, code_same, code_zero   one code
+--     most_few                the most repairs of a kind are at most two
+--     told_done, named_done   what is told where nothing is refused: of many, of one
+--     code_zero               the code of 0
 -- Assumes nothing.
-use Rattle.std.proofs.Common.{◌≡◌, ℕ, zero, suc, ◌+◌, ◌*◌, ◌<◌, ◌≤◌, min, Bool, true, false, cond, ◌||◌, ltb, List, [], ◌∷◌, ◌++◌, length, get_or, take, set, sym, refl, ap, ◌∙◌, subst, ap₂, true≢false, add-one, arith, length-append, length-set, length-take-le, get_or-set_other, get_or-take, take-suc, get_or-set_same, take_at, below_more, eq-eqb, le-leb}
+use Rattle.std.proofs.Common.{◌≡◌, ℕ, zero, suc, ◌+◌, ◌*◌, ◌<◌, ◌≤◌, min, Bool, true, false, cond, List, [], ◌∷◌, ◌++◌, length, get_or, take, set, sym, refl, ap, ◌∙◌, subst, ap₂, add-one, arith, length-append, length-set, length-take-le, get_or-take, take-suc, take_at, eq-eqb, le-leb}
 use lib.Seq.{append_snoc}
-use Rattle.lists.specs.Bits.{as_bit}
+use Rattle.lists.specs.Told.{Told, done}
 use Rattle.lists.proofs.Table.{length_tabulate, get_d_tabulate}
+use Rattle.annex10.specs.declared.MessageKind.{MessageKind}
+use Rattle.annex10.specs.declared.MessageKind.TheVariants.{Short, Long}
+use Rattle.annex10.specs.Length.{message_bytes, most_repairs}
+use Rattle.annex10.proofs.Length.{kind_small}
 use Rattle.annex10.proofs.UpTo.{up_to_zero}
 use Rattle.repairs.specs.Codes.{code_up_to, codes_up_to, codes_up_to_into}
-use Rattle.scan.specs.declared.list.Listed.{Listed}
 use Rattle.scan.specs.Sieve.{kept, lane_of, onto}
 use Rattle.scan.proofs.Keeping.{kept_none, below}
 use Rattle.sieve.specs.declared.hash.Shape.{Shape}
 use Rattle.sieve.specs.Repairable.{repairable, repairable_at, repairable_places, code_pairs, repairable_in, repairable_into}
-use Rattle.sieve.specs.Hash.{asks}
-use Rattle.sieve.specs.Inner.{bytes_of, most_of, let_in, Owners, Within, Gathered, Sifted, taken, picked, picked_codes, kept_in}
+use Rattle.sieve.specs.Inner.{let_in, Owners, Within, Gathered, Sifted, taken, picked, picked_codes, kept_in}
 use Rattle.sieve.proofs.Clears.{coded, apart}
 use Rattle.sieve.proofs.Listing.{among, among_snoc, among_kept, onto_none, onto_more}
 use Rattle.sieve.proofs.Owning.{asks_same, let_places}
-
--- ---- asked
-
-module _ (many : ℕ) (s : Shape) (d o crcs others through : List ℕ) where
-  pub gathered_none : (xs : List ℕ) → length xs ≡ 2 * many → Gathered many s d o crcs others through xs 0
-  gathered_none xs e = record { size = e; first = λ m h. absurd (omega arith); second = λ m h. absurd (omega arith) }
-
-  pub gathered_more : (xs : List ℕ) (m i a b : ℕ) → Gathered many s d o crcs others through xs m → m < many → i ≡ lane_of (get_or through m 0)
-      → a ≡ asks s d o (get_or crcs i 0) → b ≡ asks s d o (get_or others i 0)
-      → Gathered many s d o crcs others through (set (set xs (2 * m) a) (2 * m + 1) b) (m + 1)
-  gathered_more xs m i a b g h e p q =
-      let ys = set xs (2 * m) a in
-      let n : length ys ≡ 2 * many = length-set xs (2 * m) a ∙ g.size in
-      record {
-        size = length-set ys (2 * m + 1) b ∙ n;
-        first =
-            below_more (λ (k : ℕ). get_or (set ys (2 * m + 1) b) (2 * k) 0 ≡ asks s d o (get_or crcs (lane_of (get_or through k 0)) 0)) m
-            (λ k l. get_or-set_other ys (2 * m + 1) (2 * k) b 0 (λ z. omega arith) ∙ get_or-set_other xs (2 * m) (2 * k) a 0 (λ z. omega arith) ∙ g.first k l)
-            (get_or-set_other ys (2 * m + 1) (2 * m) b 0 (λ z. omega arith) ∙ get_or-set_same xs (2 * m) a 0 (omega (arith, g.size))
-            ∙ p ∙ ap (λ (x : ℕ). asks s d o (get_or crcs x 0)) e);
-        second =
-            below_more (λ (k : ℕ). get_or (set ys (2 * m + 1) b) (2 * k + 1) 0 ≡ asks s d o (get_or others (lane_of (get_or through k 0)) 0)) m
-            (λ k l. get_or-set_other ys (2 * m + 1) (2 * k + 1) b 0 (λ z. omega arith) ∙ get_or-set_other xs (2 * m) (2 * k + 1) a 0 (λ z. omega arith) ∙ g.second k l)
-            (get_or-set_same ys (2 * m + 1) b 0 (omega (arith, n)) ∙ q ∙ ap (λ (x : ℕ). asks s d o (get_or others x 0)) e);
-      }
 
 -- ---- told
 
 pub part_length : (n : ℕ) (xs : List ℕ) → n ≤ length xs → n ≡ length (take n xs)
 part_length n xs h = sym (length-take-le n xs h)
 
-pub told_part : (bytes most level n r : ℕ) (asked told t rest : List ℕ) → level ≤ most → level ≤ 2 → n ≤ length asked → n ≤ length told
-    → (r, t) ≡ codes_up_to_into bytes most level (take n asked) (take n told) → take n (t ++ rest) ≡ codes_up_to bytes level (take n asked)
-unfolding codes_up_to_into codes_up_to
-told_part bytes most level n r asked told t rest k l e g q =
-    let m : min level most ≡ level = omega arith in
-    let p : t ≡ codes_up_to bytes level (take n asked)
-    = ap (λ (x : ℕ × List ℕ). x.1) q ∙ rw (eq-eqb _ _ (sym (part_length n told g) ∙ part_length n asked e), le-leb level 2 l, m) in
-    take_at t rest n (ap length p ∙ length_tabulate (length (take n asked)) _ ∙ sym (part_length n asked e)) ∙ p
+-- told at the front of a longer list
+pub told_front : (bytes level n : ℕ) (asked t rest : List ℕ) → n ≤ length asked → t ≡ codes_up_to bytes level (take n asked)
+    → take n (t ++ rest) ≡ codes_up_to bytes level (take n asked)
+unfolding codes_up_to
+told_front bytes level n asked t rest h q =
+    take_at t rest n (ap length q ∙ length_tabulate (length (take n asked)) _ ∙ sym (part_length n asked h)) ∙ q
 
 -- the codes that are told for the first n places
-pub record Told (bytes level : ℕ) (crcs others through told : List ℕ) (n : ℕ) : Type 0 where
+pub record ToldOf (bytes level : ℕ) (crcs others through told : List ℕ) (n : ℕ) : Type 0 where
   pub first : (m : ℕ) → m < n → get_or told (2 * m) 0 ≡ code_up_to bytes level (get_or crcs (lane_of (get_or through m 0)) 0)
   pub second : (m : ℕ) → m < n → get_or told (2 * m + 1) 0 ≡ code_up_to bytes level (get_or others (lane_of (get_or through m 0)) 0)
 
@@ -95,7 +70,7 @@ sifted level many s d o crcs others through asked n w h e q g =
     }
 
 pub told_by : (bytes level many : ℕ) (crcs others through asked told : List ℕ) (n : ℕ) → bytes ≤ 14 → Sifted level many crcs others through asked n
-    → take (2 * n) told ≡ codes_up_to bytes level (take (2 * n) asked) → Told bytes level crcs others through told n
+    → take (2 * n) told ≡ codes_up_to bytes level (take (2 * n) asked) → ToldOf bytes level crcs others through told n
 told_by bytes level many crcs others through asked told n b g e =
     record {
       first = λ m l. at (2 * m) (omega arith) ∙ g.first bytes m b l;
@@ -107,22 +82,6 @@ told_by bytes level many crcs others through asked told n b g e =
 
 -- ---- kept
 
-pub taken_first : (told : List ℕ) (m : ℕ) → ltb (get_or told (2 * m) 0) 65535 ≡ true → 1 ≡ as_bit (taken told m)
-unfolding taken
-taken_first told m e = rw e
-
-or_true : (b : Bool) → (b || true) ≡ true
-or_true true = refl
-or_true false = refl
-
-pub taken_second : (told : List ℕ) (m : ℕ) → ltb (get_or told (2 * m + 1) 0) 65535 ≡ true → 1 ≡ as_bit (taken told m)
-unfolding taken
-taken_second told m e = rw (e, or_true (ltb (get_or told (2 * m) 0) 65535))
-
-pub taken_not : (told : List ℕ) (m : ℕ) → ltb (get_or told (2 * m) 0) 65535 ≡ false → ltb (get_or told (2 * m + 1) 0) 65535 ≡ false → 0 ≡ as_bit (taken told m)
-unfolding taken
-taken_not told m e g = rw (e, g)
-
 pub record Kept (through told list₀ codes₀ : List ℕ) (m n : ℕ) (list codes : List ℕ) : Type 0 where
   pub number : n ≡ length (picked through told m)
   pub twice : length (picked_codes told m) ≡ 2 * n
@@ -132,27 +91,18 @@ pub record Kept (through told list₀ codes₀ : List ℕ) (m n : ℕ) (list cod
   pub places : list ≡ onto (picked through told m) list₀
   pub pairs : codes ≡ onto (picked_codes told m) codes₀
 
-is_true : (t : Bool) → as_bit t ≡ 1 → t ≡ true
-is_true true e = refl
-is_true false e = absurd (omega arith)
-
-is_false : (t : Bool) → (as_bit t ≡ 1 → ⊥) → t ≡ false
-is_false true h = absurd (h refl)
-is_false false h = refl
-
 module _ (through told list₀ codes₀ : List ℕ) where
   pub kept_start : Kept through told list₀ codes₀ 0 0 list₀ codes₀
   unfolding picked picked_codes
   kept_start =
       record { number = refl; twice = refl; few = omega arith; size = refl; sizes = refl; places = onto_none list₀; pairs = onto_none codes₀ }
 
-  pub kept_taken : (m n x : ℕ) (list codes : List ℕ) → m < length list₀ → 2 * m + 1 < length codes₀ → x ≡ as_bit (taken told m) → x ≡ 1
+  pub kept_taken : (m n : ℕ) (list codes : List ℕ) → m < length list₀ → 2 * m + 1 < length codes₀ → taken told m ≡ true
       → Kept through told list₀ codes₀ m n list codes
       → Kept through told list₀ codes₀ (m + 1) (n + 1) (set list n (get_or through m 0))
       (set (set codes (2 * n) (get_or told (2 * m) 0)) (2 * n + 1) (get_or told (2 * m + 1) 0))
   unfolding picked picked_codes
-  kept_taken m n x list codes h g q z k =
-      let t : taken told m ≡ true = is_true (taken told m) (sym q ∙ z) in
+  kept_taken m n list codes h g t k =
       let a = get_or told (2 * m) 0 in
       let b = get_or told (2 * m + 1) 0 in
       let v = get_or through m 0 in
@@ -173,11 +123,10 @@ module _ (through told list₀ codes₀ : List ℕ) where
             ∙ ap (λ (l : List ℕ). onto l codes₀) (append_snoc cs a (b ∷ [])));
       }
 
-  pub kept_left : (m n x : ℕ) (list codes : List ℕ) → x ≡ as_bit (taken told m) → (x ≡ 1 → ⊥)
+  pub kept_left : (m n : ℕ) (list codes : List ℕ) → taken told m ≡ false
       → Kept through told list₀ codes₀ m n list codes → Kept through told list₀ codes₀ (m + 1) n list codes
   unfolding picked picked_codes
-  kept_left m n x list codes q z k =
-      let t : taken told m ≡ false = is_false (taken told m) (λ p. z (q ∙ p)) in
+  kept_left m n list codes t k =
       record {
         number = rw (add-one m, t) k.number;
         twice = rw (add-one m, t) k.twice;
@@ -208,14 +157,14 @@ through_within f many through n e h q =
           subst (λ (x : ℕ). x < many) (sym (ap (λ (xs : List ℕ). get_or xs m 0) q) ∙ get_or-take n through m 0 l) ((below f many).low m (omega (arith, z)));
     }
 
-abbrev answered : ℕ × List ℕ × List ℕ → Listed × List ℕ × List ℕ
-answered z = (record { number = 0; count = z.0 }, z.1, z.2)
+abbrev answered : ℕ × List ℕ × List ℕ → Told ℕ × List ℕ × List ℕ
+answered z = (done z.0, z.1, z.2)
 
 module _ (bytes : ℕ) (b : bytes ≤ 14) (level : ℕ) (crcs others : List ℕ) where
   abbrev test : ℕ → Bool
   test = repairable_at bytes level crcs others
 
-  taken_is : (through told : List ℕ) (n : ℕ) → Told bytes level crcs others through told n → (m : ℕ) → m < n → taken told m ≡ test (get_or through m 0)
+  taken_is : (through told : List ℕ) (n : ℕ) → ToldOf bytes level crcs others through told n → (m : ℕ) → m < n → taken told m ≡ test (get_or through m 0)
   unfolding taken repairable_at
   taken_is through told n w m h =
       rw (w.first m h, w.second m h, coded bytes b level (get_or crcs (lane_of (get_or through m 0)) 0), coded bytes b level (get_or others (lane_of (get_or through m 0)) 0))
@@ -226,7 +175,7 @@ module _ (bytes : ℕ) (b : bytes ≤ 14) (level : ℕ) (crcs others : List ℕ)
   pairs_snoc [] k = refl
   pairs_snoc (x ∷ ks) k = rw (pairs_snoc ks k)
 
-  module _ (through told : List ℕ) (n : ℕ) (w : Told bytes level crcs others through told n) (l : n ≤ length through) where
+  module _ (through told : List ℕ) (n : ℕ) (w : ToldOf bytes level crcs others through told n) (l : n ≤ length through) where
     picked_is : (m : ℕ) → m ≤ n → picked through told m ≡ among test (take m through)
     unfolding picked among
     picked_is zero h = refl
@@ -254,9 +203,9 @@ module _ (bytes : ℕ) (b : bytes ≤ 14) (level : ℕ) (crcs others : List ℕ)
     unfolding repairable_places
     places_are ks e = rw e (among_kept w.test test (λ k q. w.none bytes k b q) many)
 
-    pub all_kept : (told list codes : List ℕ) (x : ℕ) (ls cs : List ℕ) → Told bytes level crcs others through told n
+    pub all_kept : (told list codes : List ℕ) (x : ℕ) (ls cs : List ℕ) → ToldOf bytes level crcs others through told n
         → (x, ls, cs) ≡ kept_in through told n list codes
-        → (record { number = 0; count = x }, ls, cs) ≡ repairable_in bytes level many crcs others list codes
+        → (done x, ls, cs) ≡ repairable_in bytes level many crcs others list codes
     unfolding kept_in repairable_in
     all_kept told list codes x ls cs t q =
         let l : n ≤ length through = omega (arith, w.few, w.size) in
@@ -264,7 +213,7 @@ module _ (bytes : ℕ) (b : bytes ≤ 14) (level : ℕ) (crcs others : List ℕ)
         let c = codes_are through told n t l n (omega arith) ∙ ap (code_pairs bytes level crcs others) (places_are (take n through) w.places) in
         ap answered q ∙ rw (p, c)
 
-    pub none_kept : (list codes : List ℕ) → n ≡ 0 → (record { number = 0; count = 0 }, list, codes) ≡ repairable_in bytes level many crcs others list codes
+    pub none_kept : (list codes : List ℕ) → n ≡ 0 → (done 0, list, codes) ≡ repairable_in bytes level many crcs others list codes
     unfolding repairable_in code_pairs among
     none_kept list codes z =
         let p : [] ≡ repairable_places bytes level many crcs others = places_are [] (rw z at w.places) in
@@ -273,7 +222,7 @@ module _ (bytes : ℕ) (b : bytes ≤ 14) (level : ℕ) (crcs others : List ℕ)
 -- ---- the answer
 
 pub level_zero : (bytes many : ℕ) (crcs others list codes : List ℕ)
-    → (record { number = 0; count = 0 }, list, codes) ≡ repairable_in bytes 0 many crcs others list codes
+    → (done 0, list, codes) ≡ repairable_in bytes 0 many crcs others list codes
 unfolding repairable_in repairable_places code_pairs repairable_at repairable
 level_zero bytes many crcs others list codes =
     let p : [] ≡ kept (repairable_at bytes 0 crcs others) many = sym (kept_none (repairable_at bytes 0 crcs others) many (λ k l. none k)) in
@@ -283,69 +232,34 @@ level_zero bytes many crcs others list codes =
     none k = refl
 
 -- the answer where nothing is refused
-pub into_done : (bytes most many level n : ℕ) (crcs others list codes : List ℕ) (x : Listed) (ls cs : List ℕ)
+pub into_done : (bytes most many level n : ℕ) (crcs others list codes : List ℕ) (x : Told ℕ) (ls cs : List ℕ)
     → length crcs ≡ many → length others ≡ many → length list ≡ many → length codes ≡ 2 * many → level ≤ 2 → n ≡ min level most
     → (x, ls, cs) ≡ repairable_in bytes n many crcs others list codes → (x, ls, cs) ≡ repairable_into bytes most many level crcs others list codes
 unfolding repairable_into
 into_done bytes most many level n crcs others list codes x ls cs a b c d h e q =
     q ∙ rw (eq-eqb _ _ a, eq-eqb _ _ b, eq-eqb _ _ c, eq-eqb _ _ d, le-leb level 2 h, e)
 
--- ---- the two kinds
+-- ---- what is told
 
-pub bytes_few : (short : Bool) → bytes_of short ≤ 14
-unfolding bytes_of
-bytes_few true = omega arith
-bytes_few false = omega arith
+pub most_few : (kind : MessageKind) → most_repairs kind ≤ 2
+most_few Short = omega arith
+most_few Long = omega arith
 
-pub most_few : (short : Bool) → most_of short ≤ 2
-unfolding most_of
-most_few true = omega arith
-most_few false = omega arith
+-- what the sorted tables tell where they refuse nothing
+pub told_done : (kind : MessageKind) (level r : ℕ) (crcs codes t : List ℕ) → level ≤ most_repairs kind → length codes ≡ length crcs
+    → (r, t) ≡ codes_up_to_into (message_bytes kind) (most_repairs kind) level crcs codes → t ≡ codes_up_to (message_bytes kind) level crcs
+unfolding codes_up_to_into
+told_done kind level r crcs codes t l e q =
+    let m : min level (most_repairs kind) ≡ level = omega arith in
+    let h : level ≤ 2 = omega (arith, most_few kind) in
+    ap (λ (x : ℕ × List ℕ). x.1) q ∙ rw (eq-eqb _ _ e, le-leb level 2 h, m)
 
-pub at_most_short : (short : Bool) (level : ℕ) → short ≡ true → 1 ≤ level → 1 ≡ min level (most_of short)
-unfolding most_of
-at_most_short true level e h = omega arith
-at_most_short false level e h = absurd (true≢false (sym e))
+-- what is told of one, whatever is named
+pub named_done : (kind : MessageKind) (level r : ℕ) {c : ℕ} → level ≤ most_repairs kind
+    → c ≡ code_up_to (message_bytes kind) (min level (most_repairs kind)) r → c ≡ code_up_to (message_bytes kind) level r
+named_done kind level r l e = let m : min level (most_repairs kind) ≡ level = omega arith in e ∙ rw m
 
-pub at_most_long : (short : Bool) (level : ℕ) → short ≡ false → level ≤ 2 → level ≡ min level (most_of short)
-unfolding most_of
-at_most_long true level e h = absurd (true≢false e)
-at_most_long false level e h = omega arith
-
-pub at_most_some : (short : Bool) (level n : ℕ) → 1 ≤ level → n ≡ min level (most_of short) → (1 ≤ n) × (n ≤ most_of short)
-unfolding most_of
-at_most_some true level n h e = (omega arith, omega arith)
-at_most_some false level n h e = (omega arith, omega arith)
-
-module _ (short : Bool) (level n r : ℕ) (asked told t rest : List ℕ) (h : level ≤ most_of short) (a : n ≤ length asked) (b : n ≤ length told) where
-  pub told_short : short ≡ true → (r, t) ≡ codes_up_to_into 7 1 level (take n asked) (take n told)
-      → take n (t ++ rest) ≡ codes_up_to (bytes_of short) level (take n asked)
-  unfolding bytes_of most_of
-  told_short e q = let l : level ≤ 1 = rw e at h in rw e (told_part 7 1 level n r asked told t rest l (omega arith) a b q)
-
-  pub told_long : short ≡ false → (r, t) ≡ codes_up_to_into 14 2 level (take n asked) (take n told)
-      → take n (t ++ rest) ≡ codes_up_to (bytes_of short) level (take n asked)
-  unfolding bytes_of most_of
-  told_long e q = let l : level ≤ 2 = rw e at h in rw e (told_part 14 2 level n r asked told t rest l l a b q)
-
-  pub told_lent : t ≡ codes_up_to (bytes_of short) level (take n asked) → take n (t ++ rest) ≡ codes_up_to (bytes_of short) level (take n asked)
-  unfolding codes_up_to
-  told_lent q = take_at t rest n (ap length q ∙ length_tabulate (length (take n asked)) _ ∙ sym (part_length n asked a)) ∙ q
-
--- ---- one code
-
-module _ (short : Bool) (level : ℕ) (h : level ≤ most_of short) (r crc : ℕ) where
-  pub lent_short : short ≡ true → r ≡ code_up_to 7 (min level 1) crc → r ≡ code_up_to (bytes_of short) level crc
-  unfolding bytes_of most_of
-  lent_short e q = let l : level ≤ 1 = rw e at h in let m : min level 1 ≡ level = omega arith in rw e (q ∙ ap (λ (n : ℕ). code_up_to 7 n crc) m)
-
-  pub lent_long : short ≡ false → r ≡ code_up_to 14 (min level 2) crc → r ≡ code_up_to (bytes_of short) level crc
-  unfolding bytes_of most_of
-  lent_long e q = let l : level ≤ 2 = rw e at h in let m : min level 2 ≡ level = omega arith in rw e (q ∙ ap (λ (n : ℕ). code_up_to 14 n crc) m)
-
-pub code_same : (n level : ℕ) {c last crc : ℕ} → c ≡ code_up_to n level last → crc ≡ last → c ≡ code_up_to n level crc
-code_same n level e q = rw (q, e)
-
-pub code_zero : (short : Bool) (level : ℕ) → 65535 ≡ code_up_to (bytes_of short) level 0
+-- 0 is cleared by no position
+pub code_zero : (kind : MessageKind) (level : ℕ) → 65535 ≡ code_up_to (message_bytes kind) level 0
 unfolding code_up_to
-code_zero short level = rw (up_to_zero (bytes_of short) (apart (bytes_of short) (bytes_few short)) level)
+code_zero kind level = rw (up_to_zero (message_bytes kind) (apart (message_bytes kind) (kind_small kind)) level)

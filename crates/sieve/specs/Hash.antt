@@ -3,7 +3,7 @@
 -- plays no part here: it is checked before it is taken.
 -- Assumes nothing.
 use Rattle.std.specs.Prelude.{◌≡◌, ℕ, ◌/◌, ◌^◌, min, Bool, cond, ◌&&◌, ◌||◌, ◌⊎◌, List, [], ◌++◌, map, length, take, drop, ◌==◌, bit_and, bit_xor, slice_index}
-use Rattle.scan.specs.declared.list.Listed.{Listed}
+use Rattle.lists.specs.Told.{Told}
 use Rattle.sieve.specs.declared.hash.Shape.{Shape}
 use Rattle.sieve.specs.Repairable.{refused_in, repairable_into}
 use Rattle.sieve.specs.Tables.{one_displacements, one_owners, one_positions, two_displacements, two_owners}
@@ -54,7 +54,7 @@ asked_in level ds os crcs =
     crcs
 
 -- the repairable places of what is asked; a hash that does not fit: 2
-unfoldable pub sieved_into : ℕ → ℕ → ℕ → ℕ → List ℕ → List ℕ → List ℕ → List ℕ → List ℕ → List ℕ → Listed × List ℕ × List ℕ
+unfoldable pub sieved_into : ℕ → ℕ → ℕ → ℕ → List ℕ → List ℕ → List ℕ → List ℕ → List ℕ → List ℕ → Told ℕ × List ℕ × List ℕ
 sieved_into n most many level ds os crcs others list codes =
     cond (hash_fits ds os)
     (repairable_into n most many level (asked_in (min level most) ds os crcs) (asked_in (min level most) ds os others) list codes)

@@ -1,7 +1,7 @@
 -- What private functions rest on: no public contract cites it.
 -- Each pattern of at least one and at most so many positions owns its slot of the hash.
 -- Assumes nothing.
-use Rattle.std.specs.Prelude.{◌≡◌, ℕ, zero, suc, ◌+◌, ◌*◌, ◌^◌, ◌<◌, ◌≤◌, Bool, true, false, cond, ◌||◌, List, [], ◌∷◌, ◌++◌, length, take, bit_and, nat_lt, slice_index}
+use Rattle.std.specs.Prelude.{◌≡◌, ℕ, zero, suc, ◌+◌, ◌*◌, ◌<◌, ◌≤◌, Bool, false, cond, ◌||◌, List, [], ◌∷◌, ◌++◌, length, take, bit_and, nat_lt, slice_index}
 use Rattle.annex10.specs.declared.Repairs.{Repairs}
 use Rattle.annex10.specs.Repair.{Proper, count, pattern}
 use Rattle.sieve.specs.declared.hash.Shape.{Shape}
@@ -9,15 +9,6 @@ use Rattle.repairs.specs.Codes.{code_up_to}
 use Rattle.scan.specs.Sieve.{kept, lane_of, onto}
 use Rattle.sieve.specs.Repairable.{repairable_at}
 use Rattle.sieve.specs.Hash.{slot_of, lets, asks}
-
--- the bytes of a short message and of a long one, and the most repairs
-unfoldable pub bytes_of : Bool → ℕ
-bytes_of true = 7
-bytes_of false = 14
-
-unfoldable pub most_of : Bool → ℕ
-most_of true = 1
-most_of false = 2
 
 -- one of the two remainders of place k does
 unfoldable pub let_in : Shape → List ℕ → List ℕ → List ℕ → List ℕ → ℕ → Bool
@@ -27,11 +18,7 @@ let_in s ds os crcs others k = lets s ds os (slice_index crcs (lane_of k)) || le
 pub record Shaped (s : Shape) (ds os : List ℕ) : Type 0 where
   pub small : s.shift < 32
   pub few : s.index < length ds
-  pub bits : ℕ
-  pub width : s.slots < 2 ^ bits
-  pub near : (i : ℕ) → i < length ds → slice_index ds i < 2 ^ bits
-  pub many : 2 ^ bits ≤ length os
-  pub room : 2 ^ bits ≤ 65536
+  pub there : (r : ℕ) → slot_of s ds r < length os
 
 pub record Owners (level : ℕ) (s : Shape) (ds os : List ℕ) : Type 0 where
   pub shaped : Shaped s ds os

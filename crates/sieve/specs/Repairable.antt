@@ -5,7 +5,7 @@ use Rattle.annex10.specs.declared.Found.{Found}
 use Rattle.annex10.specs.declared.Found.TheVariants.{At, Nothing}
 use Rattle.annex10.specs.Repair.{clearing}
 use Rattle.repairs.specs.Codes.{code_up_to}
-use Rattle.scan.specs.declared.list.Listed.{Listed}
+use Rattle.lists.specs.Told.{Told, done, refused}
 use Rattle.scan.specs.Sieve.{kept, lane_of, onto}
 
 abbrev pub is_found : Found → Bool
@@ -32,17 +32,17 @@ code_pairs n level crcs others (k ∷ ks) =
     code_up_to n level (slice_index crcs (lane_of k)) ∷ code_up_to n level (slice_index others (lane_of k)) ∷ code_pairs n level crcs others ks
 
 -- the answer, the list, the codes
-unfoldable pub repairable_in : ℕ → ℕ → ℕ → List ℕ → List ℕ → List ℕ → List ℕ → Listed × List ℕ × List ℕ
+unfoldable pub repairable_in : ℕ → ℕ → ℕ → List ℕ → List ℕ → List ℕ → List ℕ → Told ℕ × List ℕ × List ℕ
 repairable_in n level many crcs others list codes =
     let ks = repairable_places n level many crcs others in
-    (record { number = 0; count = length ks }, onto ks list, onto (code_pairs n level crcs others ks) codes)
+    (done (length ks), onto ks list, onto (code_pairs n level crcs others ks) codes)
 
-abbrev pub refused_in : ℕ → List ℕ → List ℕ → Listed × List ℕ × List ℕ
-refused_in number list codes = (record { number = number; count = 0 }, list, codes)
+abbrev pub refused_in : ℕ → List ℕ → List ℕ → Told ℕ × List ℕ × List ℕ
+refused_in number list codes = (refused number, list, codes)
 
 -- with at most as many positions as the level and the kind of message allow; `many` remainders of each slicer, else 2; room for as many
 -- places and twice as many codes, else 3; a level above 2: 4
-unfoldable pub repairable_into : ℕ → ℕ → ℕ → ℕ → List ℕ → List ℕ → List ℕ → List ℕ → Listed × List ℕ × List ℕ
+unfoldable pub repairable_into : ℕ → ℕ → ℕ → ℕ → List ℕ → List ℕ → List ℕ → List ℕ → Told ℕ × List ℕ × List ℕ
 repairable_into n most many level crcs others list codes =
     cond (length crcs == many && length others == many)
     (cond (length list == many && length codes == 2 * many)

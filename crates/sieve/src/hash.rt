@@ -1,12 +1,13 @@
 // The hash that a caller may write out once and lend to many calls.
-ghost use Rattle.std.specs.Prelude.{◌≡◌, length};
+ghost use Rattle.std.specs.Prelude.{◌≡◌};
+ghost use Rattle.refusals.specs.Refusals.{told_number};
 ghost use Rattle.sieve.specs.Hash.{hash_into};
 
-use crate::own::{two_displacements, two_owners};
-use crate::tables::{ONE_DISPLACEMENTS, ONE_OWNERS, ONE_POSITIONS};
+use crate::tables::{ONE_DISPLACEMENTS, ONE_OWNERS, ONE_POSITIONS, TWO_DISPLACEMENTS, TWO_OWNERS};
+use refusals::Refusal;
 
 // Which bits of a remainder choose the displacement, which the slot, and which are the owner's.
-#[derive(Clone, Copy)]
+#[derive(Clone, Copy, Debug, PartialEq, Eq)]
 pub struct Shape {
     pub index: u32,
     pub shift: u32,
@@ -14,38 +15,17 @@ pub struct Shape {
     pub low: u32,
 }
 
-fn put_displacements(from: &[u8], to: &mut [u8])
-    requires { length to.old ≡ length from.now }
-    ensures { to.new ≡ from.now }
+// To lent memory: 2,176 displacements with 512 positions behind them, and 8,704 owners, that of one error in front. Refused: other sizes.
+pub fn write_hash(displacements: &mut [u8], owners: &mut [u16]) -> Result<(), Refusal>
+    ensures { (told_number result, displacements.new, owners.new) ≡ hash_into displacements.old owners.old }
 {
-    for i in 0..from.len() {
-        to[i] = from[i];
+    if displacements.len() != 2688 || owners.len() != 8704 {
+        return Err(Refusal::Output);
     }
-}
-
-fn put_owners(from: &[u16], to: &mut [u16])
-    requires { length to.old ≡ length from.now }
-    ensures { to.new ≡ from.now }
-{
-    for i in 0..from.len() {
-        to[i] = from[i];
-    }
-}
-
-// To lent memory: 2,176 displacements with 512 positions behind them, and 8,704 owners, that of one error in front. Refused: 3 other sizes.
-pub fn write_hash(displacements: &mut [u8], owners: &mut [u16]) -> u32
-    ensures { (result, displacements.new, owners.new) ≡ hash_into displacements.old owners.old }
-{
-    if displacements.len() != 2688 {
-        return 3;
-    }
-    if owners.len() != 8704 {
-        return 3;
-    }
-    put_displacements(&ONE_DISPLACEMENTS, &mut displacements[..128]);
-    put_displacements(&two_displacements(), &mut displacements[128..2176]);
-    put_displacements(&ONE_POSITIONS, &mut displacements[2176..]);
-    put_owners(&ONE_OWNERS, &mut owners[..512]);
-    put_owners(&two_owners(), &mut owners[512..]);
-    0
+    displacements[..128].copy_from_slice(&ONE_DISPLACEMENTS);
+    displacements[128..2176].copy_from_slice(&TWO_DISPLACEMENTS);
+    displacements[2176..].copy_from_slice(&ONE_POSITIONS);
+    owners[..512].copy_from_slice(&ONE_OWNERS);
+    owners[512..].copy_from_slice(&TWO_OWNERS);
+    Ok(())
 }

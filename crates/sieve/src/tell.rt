@@ -1,93 +1,40 @@
 // What clears the remainders that were let through.
-ghost use Rattle.std.specs.Prelude.{◌≡◌, ◌≤◌, true, length, take};
+ghost use Rattle.std.specs.Prelude.{◌≡◌, ◌≤◌, length};
+ghost use Rattle.annex10.specs.Length.{message_bytes, most_repairs};
 ghost use Rattle.repairs.specs.Codes.{code_up_to, codes_up_to};
-ghost use Rattle.sieve.specs.Hash.{hash_fits};
-ghost use Rattle.sieve.specs.Inner.{bytes_of, most_of};
 
-use crate::named::name;
-use repairs::named::{bit_errors_named, bit_errors_named_short};
-use repairs::rows::{bit_errors_from_crc24s, bit_errors_from_crc24s_short};
+use crate::loan::Lent;
+use annex10::MessageKind;
+use repairs::named::bit_errors_named;
+use repairs::rows::bit_errors_from_crc24s;
 
-// The code of one, by what a lent hash names.
-fn code_lent(short: bool, level: u32, displacements: &[u8], owners: &[u16], crc: u32) -> u32
-    requires { (level ≤ most_of short) × (length displacements.now ≡ 2688) × (length owners.now ≡ 8704) }
-    ensures { result ≡ code_up_to (bytes_of short) level crc }
-{
-    let named = name(level, displacements, owners, crc);
-    if short {
-        return bit_errors_named_short(level, named, crc);
-    }
-    bit_errors_named(level, named, crc)
-}
-
-// The same, from the code of the remainder before it: both slicers often have the same bits, and then that is its own.
-fn code_after(
-    short: bool,
-    level: u32,
-    displacements: &[u8],
-    owners: &[u16],
-    last: u32,
-    code: u32,
-    crc: u32,
-) -> u32
-    requires { (level ≤ most_of short) × (length displacements.now ≡ 2688) × (length owners.now ≡ 8704) × (code ≡ code_up_to (bytes_of short) level last) }
-    ensures { result ≡ code_up_to (bytes_of short) level crc }
-{
-    if crc == last {
-        return code;
-    }
-    code_lent(short, level, displacements, owners, crc)
-}
-
-// The codes of many. 0 is cleared by no position: it stands before the first.
-fn codes_lent(
-    short: bool,
-    level: u32,
-    displacements: &[u8],
-    owners: &[u16],
-    crcs: &[u32],
-    codes: &mut [u32],
-)
-    requires { (level ≤ most_of short) × (length displacements.now ≡ 2688) × (length owners.now ≡ 8704) × (length codes.old ≡ length crcs.now) }
-    ensures { codes.new ≡ codes_up_to (bytes_of short) level crcs.now }
+// By what a lent hash names. Both slicers often have the same bits: the code of an equal remainder is that of the one before it. 0 is
+// cleared by no position: it stands before the first.
+#[tactic(auto, using(crate::proofs::Picking::named_done))]
+fn codes_lent(kind: MessageKind, level: u32, lent: &Lent, crcs: &[u32], codes: &mut [u32])
+    requires { (level ≤ most_repairs kind) × (length codes.old ≡ length crcs.now) }
+    ensures { codes.new ≡ codes_up_to (message_bytes kind) level crcs.now }
 {
     let mut last = 0;
     let mut code = 0xffff;
-    for i in 0..codes.len() {
-        let crc = crcs[i];
-        code = code_after(short, level, displacements, owners, last, code, crc);
-        last = crc;
+    for (i, &crc) in crcs.iter().enumerate() {
+        if crc != last {
+            last = crc;
+            code = bit_errors_named(kind, level, lent.name(level, crc), crc);
+        }
         codes[i] = code;
     }
 }
 
-// The codes of the first n: by a lent hash, or by the sorted tables where nothing is lent.
-pub fn tell(
-    short: bool,
-    level: u32,
-    displacements: &[u8],
-    owners: &[u16],
-    asked: &[u32],
-    n: usize,
-    told: &mut [u32],
-)
-    requires { (level ≤ most_of short) × (hash_fits displacements.now owners.now ≡ true) × (n ≤ length asked.now) × (n ≤ length told.old) }
-    ensures { take n told.new ≡ codes_up_to (bytes_of short) level (take n asked.now) }
+// By a lent hash, or by the sorted tables where nothing is lent.
+pub fn tell(kind: MessageKind, level: u32, lent: Option<Lent>, crcs: &[u32], codes: &mut [u32])
+    requires { (level ≤ most_repairs kind) × (length codes.old ≡ length crcs.now) }
+    ensures { codes.new ≡ codes_up_to (message_bytes kind) level crcs.now }
 {
-    if owners.len() == 8704 {
-        codes_lent(
-            short,
-            level,
-            displacements,
-            owners,
-            &asked[..n],
-            &mut told[..n],
-        );
-        return;
+    match lent {
+        Some(lent) => codes_lent(kind, level, &lent, crcs, codes),
+        None => {
+            let _ = bit_errors_from_crc24s(kind, level, crcs, codes);
+        }
     }
-    if short {
-        bit_errors_from_crc24s_short(level, &asked[..n], &mut told[..n]);
-        return;
-    }
-    bit_errors_from_crc24s(level, &asked[..n], &mut told[..n]);
 }

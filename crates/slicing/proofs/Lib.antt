@@ -1,4 +1,3 @@
 pub mod Slicing
 pub mod Counting
 pub mod Joining
-pub mod Told

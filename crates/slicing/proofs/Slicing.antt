@@ -6,8 +6,6 @@
 --     sliced_bit_lt, mark_bit_lt    a bit is below 2
 --     sliced_length, bit_sliced   a stream has 18 bytes, and its bits are those of the slicer
 --     bit_marked                  the bits of its marks
---     slicing_taken               a call of which nothing is refused
---     demodulated_done            the answer then
 -- Assumes nothing.
 use mathlib.Core.Path.{◌≡◌, refl, ◌∙◌}
 use mathlib.Core.List.{List}
@@ -15,7 +13,7 @@ use mathlib.Core.Bool.{Bool, true, false, not, ◌&&◌, cond}
 use Prim.Native.Nat.{ℕ, ◌+◌, ◌*◌, ◌/◌, ◌%◌, ◌<◌, ◌≤◌}
 use native.Mathlib.Decide.{ℕ_discrete}
 use native.Mathlib.Omega.{arith}
-use borrow.Author.Tests.{lt-ltb, eq-eqb}
+use borrow.Author.Tests.{lt-ltb}
 use lib.Dec.{ltb, lit<}
 use lib.ListN.{length, get_or, set}
 use lib.Ieee.{Float, lt, nan}
@@ -25,9 +23,8 @@ use Rattle.lists.proofs.Table.{Done, done_more, done_all, length_tabulate, get_d
 use Rattle.lists.proofs.Bits.{bit_at_packed}
 use Rattle.math.specs.declared.Complex.{Complex}
 use Rattle.place.specs.declared.Slicer.{Slicer}
-use Rattle.place.specs.declared.Slicer.TheVariants.{Coherent, Noncoherent}
 use Rattle.kernels.specs.Symbols.{complex_at}
-use Rattle.slicing.specs.Slices.{measure, greater_by, undecided, of_pair, sliced_bit, mark_bit, sliced, marks, streams_of, marks_of, Outputs, slicing_number, leaving, demodulated}
+use Rattle.slicing.specs.Slices.{measure, greater_by, undecided, of_pair, sliced_bit, mark_bit, sliced, marks}
 use Rattle.slicing.specs.Inner.{measures_of, in_turn, bits_in_turn, marks_in_turn}
 
 pub as_bit_lt : (t : Bool) → as_bit t < 2
@@ -123,15 +120,3 @@ module _ (slicer : Slicer) (row : List Float) where
   pub bit_marked : (stream i : ℕ) → i < 144 → bit_at (marks slicer row stream) i ≡ mark_bit slicer row stream i
   unfolding marks
   bit_marked stream i h = bit_at_packed (mark_bit slicer row stream) (mark_bit_lt stream) 18 i (omega arith)
-
--- ---- the answers
-
-pub slicing_taken : (row : List Float) (a b c d : List ℕ) → length row ≡ 576 → length a ≡ 36 → length b ≡ 36 → length c ≡ 36 → length d ≡ 36
-    → slicing_number row (a, b, c, d) ≡ 0
-unfolding slicing_number
-slicing_taken row a b c d e f g h i = rw (eq-eqb _ _ e, eq-eqb _ _ f, eq-eqb _ _ g, eq-eqb _ _ h, eq-eqb _ _ i)
-
-pub demodulated_done : (row : List Float) (old : Outputs) → slicing_number row old ≡ 0
-    → demodulated row old ≡ leaving 0 (streams_of Coherent row, streams_of Noncoherent row, marks_of Coherent row, marks_of Noncoherent row)
-unfolding demodulated
-demodulated_done row old e = rw e

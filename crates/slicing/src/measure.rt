@@ -19,6 +19,7 @@ fn measure(slicer: Slicer, z: Complex) -> f32
 }
 
 // Of complex number i of a row, which holds re then im.
+#[tactic(auto, unfolding(kernels::specs::Symbols::complex_at))]
 pub fn measure_at(slicer: Slicer, row: &[f32], i: usize) -> f32
     requires { 2 * i + 1 < length row.now }
     ensures { result ≡ measure slicer (complex_at row.now i) }
@@ -32,29 +33,16 @@ pub fn measure_at(slicer: Slicer, row: &[f32], i: usize) -> f32
     )
 }
 
-// A truth as a bit.
-fn bit(t: bool) -> u8
-    ensures { result ≡ as_bit t }
-{
-    if t { 1 } else { 0 }
-}
-
 // The bit of two measures: the first is strictly greater.
 pub fn bit_of_pair(a: f32, b: f32) -> u8
     ensures { result ≡ as_bit (lt b a) }
 {
-    bit(a > b)
+    u8::from(a > b)
 }
 
 // Its mark: neither is. A NaN is neither greater nor equal.
 pub fn mark_of_pair(a: f32, b: f32) -> u8
     ensures { result ≡ as_bit (not (lt b a) && not (lt a b)) }
 {
-    if a > b {
-        return 0;
-    }
-    if b > a {
-        return 0;
-    }
-    1
+    u8::from(!(a > b) && !(b > a))
 }

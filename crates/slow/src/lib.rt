@@ -2,32 +2,37 @@
 // choice the message is divided, and the first that leaves the remainder 0 is the answer. Nothing is looked up.
 #![tactic(auto)]
 
-ghost use Rattle.std.specs.Prelude.{◌≡◌, true, ◌*◌, ◌<◌, ◌≤◌, min, eqb, length};
+ghost use Rattle.std.specs.Prelude.{◌≡◌, true, ◌*◌, ◌<◌, ◌≤◌, eqb, length};
+ghost use Rattle.refusals.specs.Refusals.{told};
 ghost use Rattle.annex10.specs.declared.Repairs.TheVariants.{Two};
 ghost use Rattle.annex10.specs.Length.{message_length};
 ghost use Rattle.annex10.specs.Remainder.{remainder};
 ghost use Rattle.annex10.specs.Repair.{inside, repaired, seek, choose};
-ghost use Rattle.annex10.specs.Mend.{tried, mended, mended_told, repair_of};
+ghost use Rattle.annex10.specs.Mend.{tried, mended, repair_of};
 
-use annex10::{Found, Mended, Repairs};
+use annex10::{Found, Repairs};
 use mode_s::crc::crc24;
 use mode_s::repair::correct_message_bit_errors;
+use refusals::Refusal;
 
-// Turns the positions over, divides, and turns them back.
-fn clears(message: &mut [u8], repairs: Repairs) -> bool
-    requires { (message_length (length message.old) ≡ true) × (inside (length message.old) repairs ≡ true) }
-    ensures { (result ≡ eqb (remainder (repaired message.old repairs)) 0) × (message.new ≡ message.old) }
+// Whether the message, with the positions turned over, has the remainder 0.
+#[tactic(auto, using(annex10::proofs::Length::message_small))]
+fn clears(message: &[u8], repairs: Repairs) -> bool
+    requires { (message_length (length message.now) ≡ true) × (inside (length message.now) repairs ≡ true) }
+    ensures { result ≡ eqb (remainder (repaired message.now repairs)) 0 }
 {
-    correct_message_bit_errors(message, repairs);
-    let crc = crc24(message);
-    correct_message_bit_errors(message, repairs);
-    crc == 0
+    let mut bytes = [0; 14];
+    let own = &mut bytes[..message.len()];
+    own.copy_from_slice(message);
+    let _ = correct_message_bit_errors(own, repairs);
+    crc24(own) == 0
 }
 
 // Each position in turn.
-fn one(message: &mut [u8]) -> Found
-    requires { message_length (length message.old) ≡ true }
-    ensures { (result ≡ choose (tried message.old) (length message.old) 1) × (message.new ≡ message.old) }
+#[tactic(auto, using(annex10::proofs::Length::message_small), unfolding(annex10::specs::Repair::choose, annex10::specs::Repair::seek))]
+fn one(message: &[u8]) -> Found
+    requires { message_length (length message.now) ≡ true }
+    ensures { result ≡ choose (tried message.now) (length message.now) 1 }
 {
     for j in 0..8 * message.len() {
         let repairs = Repairs::One(j as u8);
@@ -39,9 +44,10 @@ fn one(message: &mut [u8]) -> Found
 }
 
 // Each position before k, together with k.
-fn two_with(message: &mut [u8], k: usize) -> Found
-    requires { (message_length (length message.old) ≡ true) × (k < 8 * length message.old) }
-    ensures { (result ≡ seek (λ j. tried message.old (Two j k)) k) × (message.new ≡ message.old) }
+#[tactic(auto, using(annex10::proofs::Length::message_small), unfolding(annex10::specs::Repair::choose, annex10::specs::Repair::seek))]
+fn two_with(message: &[u8], k: usize) -> Found
+    requires { (message_length (length message.now) ≡ true) × (k < 8 * length message.now) }
+    ensures { result ≡ seek (λ j. tried message.now (Two j k)) k }
 {
     for j in 0..k {
         let repairs = Repairs::Two(j as u8, k as u8);
@@ -53,23 +59,23 @@ fn two_with(message: &mut [u8], k: usize) -> Found
 }
 
 // Each pair in order: 0 and 1, 0 and 2, 1 and 2, 0 and 3, and so on.
-fn two(message: &mut [u8]) -> Found
-    requires { message_length (length message.old) ≡ true }
-    ensures { (result ≡ choose (tried message.old) (length message.old) 2) × (message.new ≡ message.old) }
+#[tactic(auto, using(annex10::proofs::Length::message_small), unfolding(annex10::specs::Repair::choose, annex10::specs::Repair::seek))]
+fn two(message: &[u8]) -> Found
+    requires { message_length (length message.now) ≡ true }
+    ensures { result ≡ choose (tried message.now) (length message.now) 2 }
 {
     for k in 0..8 * message.len() {
-        match two_with(message, k) {
-            Found::At(repairs) => return Found::At(repairs),
-            Found::Nothing => {}
+        if let Found::At(repairs) = two_with(message, k) {
+            return Found::At(repairs);
         }
     }
     Found::Nothing
 }
 
 // The fewest positions, at most `level`.
-fn fewest(level: u32, message: &mut [u8]) -> Found
-    requires { (message_length (length message.old) ≡ true) × (level ≤ 2) }
-    ensures { (result ≡ mended level message.old) × (message.new ≡ message.old) }
+fn fewest(level: u32, message: &[u8]) -> Found
+    requires { (message_length (length message.now) ≡ true) × (level ≤ 2) }
+    ensures { result ≡ mended level message.now }
 {
     if crc24(message) == 0 {
         return Found::At(Repairs::None);
@@ -77,57 +83,37 @@ fn fewest(level: u32, message: &mut [u8]) -> Found
     if level == 0 {
         return Found::Nothing;
     }
-    let single = one(message);
-    if level == 1 {
-        return single;
-    }
-    match single {
-        Found::At(_) => single,
-        Found::Nothing => two(message),
-    }
-}
-
-fn copy(from: &[u8], to: &mut [u8])
-    requires { length to.old ≡ length from.now }
-    ensures { to.new ≡ from.now }
-{
-    for i in 0..from.len() {
-        to[i] = from[i];
+    match one(message) {
+        Found::At(repairs) => Found::At(repairs),
+        Found::Nothing if level == 2 => two(message),
+        Found::Nothing => Found::Nothing,
     }
 }
 
 // The fewest positions, at most `level`, that clear a message of 14 bytes, by trial. Refused: 2 another length, 4 a level above 2.
-pub fn repair_slowly(level: u32, message: &[u8]) -> Mended
-    ensures { mended_told result ≡ repair_of 14 2 level message.now }
+#[tactic(auto, unfolding(annex10::specs::Mend::repair_of, annex10::specs::Length::message_length))]
+pub fn repair_slowly(level: u32, message: &[u8]) -> Result<Found, Refusal>
+    ensures { told result ≡ repair_of 14 2 level message.now }
 {
     if message.len() != 14 {
-        return Mended::Refused(2);
+        return Err(Refusal::Input);
     }
     if level > 2 {
-        return Mended::Refused(4);
+        return Err(Refusal::Level);
     }
-    let mut own = [0u8; 14];
-    copy(message, &mut own);
-    Mended::Is(fewest(level, &mut own))
-}
-
-fn at_most_one(level: u32) -> u32
-    ensures { result ≡ min level 1 }
-{
-    if level > 1 { 1 } else { level }
+    Ok(fewest(level, message))
 }
 
 // Of 7 bytes: at most one position, at any level above 0.
-pub fn repair_slowly_short(level: u32, message: &[u8]) -> Mended
-    ensures { mended_told result ≡ repair_of 7 1 level message.now }
+#[tactic(auto, unfolding(annex10::specs::Mend::repair_of, annex10::specs::Length::message_length))]
+pub fn repair_slowly_short(level: u32, message: &[u8]) -> Result<Found, Refusal>
+    ensures { told result ≡ repair_of 7 1 level message.now }
 {
     if message.len() != 7 {
-        return Mended::Refused(2);
+        return Err(Refusal::Input);
     }
     if level > 2 {
-        return Mended::Refused(4);
+        return Err(Refusal::Level);
     }
-    let mut own = [0u8; 7];
-    copy(message, &mut own);
-    Mended::Is(fewest(at_most_one(level), &mut own))
+    Ok(fewest(level.min(1), message))
 }

@@ -2,7 +2,7 @@
 --     byte_le           two bytes differ in at most eight bits
 --     byte_more         one more byte of each is compared
 --     differing_le      at most all positions differ
---     distance-         the answers: refused, done
+--     distance_done     the answer
 -- Assumes nothing.
 use mathlib.Core.Path.{◌≡◌, refl, sym, ◌∙◌}
 use mathlib.Core.List.{List}
@@ -10,16 +10,15 @@ use mathlib.Core.Bool.{Bool, true, false, cond}
 use Prim.Native.Nat.{ℕ, zero, suc, ◌+◌, ◌*◌, ◌/◌, ◌%◌, ◌^◌, ◌<◌, ◌≤◌}
 use native.Mathlib.Nat.{add-zero, add-suc}
 use native.Mathlib.Omega.{arith}
-use borrow.Author.Tests.{eq-eqb, ne_eqb}
+use borrow.Author.Tests.{eq-eqb}
 use lib.Bits.{bit_xor, differ, xor_step, xor_lt}
 use lib.Count.{ones, ones_step, ones-le}
 use lib.Dec.{eqb}
 use lib.ListN.{length}
 use Rattle.lists.specs.Bits.{bit_at, value}
-use Rattle.lists.specs.Told.{done, refused}
-use Rattle.lists.proofs.Telling.{told_refused}
+use Rattle.lists.specs.Told.{done}
 use Rattle.lists.proofs.Bits.{bit_at_lt, value_lt}
-use Rattle.streams.specs.Streams.{message_at, stream_number}
+use Rattle.streams.specs.Streams.{message_at}
 use Rattle.streams.specs.Distances.{differing, pair_number, distance_at}
 use Rattle.streams.proofs.Reading.{message_value, stream_done}
 
@@ -94,17 +93,9 @@ byte_more a b n o k h ex ey ed =
     let ay = ey ∙ sym (message_value b n o (8 * k) 8 (omega arith)) in
     rw (ax, ay, ed, m, differing_span (message_at a n o) (message_at b n o) (8 * k) 8, ones_span (message_at a n o) (message_at b n o) (8 * k) 8)
 
--- ---- the answers
+-- ---- the answer
 
 module _ (a b : List ℕ) (offset : ℕ) where
-  pub distance_short : (length a ≡ 18 → ⊥) → refused 2 ≡ distance_at a b offset
-  unfolding distance_at pair_number
-  distance_short h = rw (ne_eqb _ _ h)
-
-  pub distance_refused : {n : ℕ} → length a ≡ 18 → n ≡ stream_number 14 b offset → (n ≡ 0 → ⊥) → refused n ≡ distance_at a b offset
-  unfolding distance_at pair_number
-  distance_refused l e h = rw (eq-eqb _ _ l) (told_refused (differing (message_at a 14 offset) (message_at b 14 offset) 112) e h)
-
   pub distance_done : length a ≡ 18 → length b ≡ 18 → offset ≤ 32
       → distance_at a b offset ≡ done (differing (message_at a 14 offset) (message_at b 14 offset) 112)
   unfolding distance_at pair_number

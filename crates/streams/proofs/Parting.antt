@@ -1,21 +1,21 @@
 -- Laws of a message in a part of a stream.
 --     same_packed      equal bits make equal bytes
 --     message_part     in the part that starts with the byte of its first bit the message is the same
---     part-            the answers: refused, done
+--     part_done        the answer
 -- Assumes nothing.
-use mathlib.Core.Path.{◌≡◌, refl, ap, ◌∙◌}
+use mathlib.Core.Path.{◌≡◌, refl, sym, ap, ◌∙◌}
 use mathlib.Core.List.{List}
 use mathlib.Core.Bool.{Bool, true, false, cond}
-use Prim.Native.Nat.{ℕ, zero, suc, ◌+◌, ◌-◌, ◌*◌, ◌/◌, ◌%◌, ◌<◌, ◌≤◌}
+use Prim.Native.Nat.{ℕ, ◌+◌, ◌-◌, ◌*◌, ◌/◌, ◌%◌, ◌<◌, ◌≤◌}
 use native.Mathlib.Omega.{arith}
 use borrow.Author.Tests.{eq-eqb, eqb-true, le-leb, leb-true}
 use lib.Dec.{eqb, leb}
-use lib.ListN.{length, take, drop, replicate}
+use lib.ListN.{length, take, drop}
 use lib.Seq.{get_or-take, get_or-drop}
 use Rattle.lists.specs.Bits.{bit_at, value, packed}
 use Rattle.lists.proofs.Table.{tabulate_is, length_tabulate, get_d_tabulate}
 use Rattle.lists.proofs.Bits.{value_same}
-use Rattle.lists.specs.Told.{Told, tell}
+use Rattle.lists.specs.Told.{done, tell}
 use Rattle.parts.specs.Part.{part_size, size_at}
 use Rattle.streams.specs.Streams.{message_at, sized_number, part_number}
 use Rattle.streams.specs.Messages.{part_message}
@@ -68,22 +68,11 @@ module _ (n : ℕ) (part : List ℕ) (bit : ℕ) where
       absurd (omega arith)
   tested t false a b e = absurd (omega arith)
 
-  pub part_opened : part_number n part bit ≡ 0 → PartTaken n part bit
+  pub part_opened : 0 ≡ part_number n part bit → PartTaken n part bit
   unfolding part_number size_at
-  part_opened e = tested (eqb (length part) (part_size n bit)) (leb bit (144 - 8 * n)) refl refl e
+  part_opened e = tested (eqb (length part) (part_size n bit)) (leb bit (144 - 8 * n)) refl refl (sym e)
 
-  -- the number from the size of the part
-  pub sized : {t : Told ℕ} {k : ℕ} → t ≡ size_at n bit → k ≡ sized_number t part → k ≡ part_number n part bit
-  unfolding part_number
-  sized e h = h ∙ ap (λ (t : Told ℕ). sized_number t part) e
-
-  pub part_refused : {k : ℕ} {m : List ℕ} → k ≡ part_number n part bit → (k ≡ 0 → ⊥) → m ≡ replicate n 0
-      → record { number = k; bytes = m } ≡ part_message n part bit
-  unfolding part_message
-  part_refused {k = zero} e h z = absurd (h refl)
-  part_refused {k = suc k} e h z = rw (← e, z)
-
-  pub part_done : length part ≡ part_size n bit → bit ≤ 144 - 8 * n → part_message n part bit ≡ record { number = 0; bytes = message_at part n (bit % 8) }
+  pub part_done : length part ≡ part_size n bit → bit ≤ 144 - 8 * n → part_message n part bit ≡ done (message_at part n (bit % 8))
   unfolding part_message part_number size_at
   part_done a b = simp (eq-eqb _ _ a, le-leb _ _ b)
 
@@ -94,3 +83,6 @@ small n bit = go (eqb (bit % 8) 0)
     go : (b : Bool) → cond b n (n + 1) ≤ n + 1
     go true = omega arith
     go false = omega arith
+
+-- what a call at a part stands on
+pub ruleset parting = (part_opened, enough, small)

@@ -3,7 +3,7 @@
 --     message_value                  a run of its bits
 --     message_head                   its first byte
 --     stream_done, opened            a call is taken exactly when the stream has 18 bytes and the message ends within it
---     extracted-, crc-               the answers: refused, done
+--     extracted_done, crc_done       the answers
 -- Assumes nothing.
 use mathlib.Core.Path.{◌≡◌, refl, sym, ap, ◌∙◌}
 use mathlib.Core.List.{List}
@@ -13,11 +13,10 @@ use native.Mathlib.Nat.{add-zero}
 use native.Mathlib.Omega.{arith}
 use borrow.Author.Tests.{eqb-true, leb-true, eq-eqb, le-leb}
 use lib.Dec.{eqb, leb}
-use lib.ListN.{length, get_or, replicate}
+use lib.ListN.{length, get_or}
 use Rattle.lists.specs.Bits.{bit_at, value, packed}
-use Rattle.lists.specs.Told.{done, refused}
+use Rattle.lists.specs.Told.{done}
 use Rattle.lists.proofs.Table.{length_tabulate, get_d_tabulate}
-use Rattle.lists.proofs.Telling.{told_refused}
 use Rattle.lists.proofs.Bits.{bit_at_lt, bit_at_packed, value_later}
 use Rattle.annex10.specs.Remainder.{remainder}
 use Rattle.streams.specs.Streams.{message_at, stream_number}
@@ -63,26 +62,17 @@ module _ (n : ℕ) (bytes : List ℕ) (offset : ℕ) where
   tested true false a b e = absurd (omega arith)
   tested false u a b e = absurd (omega arith)
 
-  pub opened : {k : ℕ} → k ≡ stream_number n bytes offset → k ≡ 0 → Taken n bytes offset
+  pub opened : 0 ≡ stream_number n bytes offset → Taken n bytes offset
   unfolding stream_number
-  opened e z = tested (eqb (length bytes) 18) (leb offset (144 - 8 * n)) refl refl (sym e ∙ z)
+  opened e = tested (eqb (length bytes) 18) (leb offset (144 - 8 * n)) refl refl (sym e)
 
-  -- ---- the answers
+-- ---- the answers
 
-  pub extracted_refused : {k : ℕ} {m : List ℕ} → k ≡ stream_number n bytes offset → (k ≡ 0 → ⊥) → m ≡ replicate n 0
-      → record { number = k; bytes = m } ≡ extracted n bytes offset
+module _ (n : ℕ) (bytes : List ℕ) (offset : ℕ) where
+  pub extracted_done : length bytes ≡ 18 → offset ≤ 144 - 8 * n → extracted n bytes offset ≡ done (message_at bytes n offset)
   unfolding extracted
-  extracted_refused {k = zero} e h z = absurd (h refl)
-  extracted_refused {k = suc k} e h z = rw (← e, z)
-
-  pub extracted_done : length bytes ≡ 18 → offset ≤ 144 - 8 * n → extracted n bytes offset ≡ record { number = 0; bytes = message_at bytes n offset }
-  unfolding extracted
-  extracted_done a b = rw (stream_done a b)
-
-  pub crc_refused : {k : ℕ} → k ≡ stream_number n bytes offset → (k ≡ 0 → ⊥) → refused k ≡ crc_at n bytes offset
-  unfolding crc_at
-  crc_refused = told_refused (remainder (message_at bytes n offset))
+  extracted_done a b = rw (stream_done n bytes offset a b)
 
   pub crc_done : length bytes ≡ 18 → offset ≤ 144 - 8 * n → crc_at n bytes offset ≡ done (remainder (message_at bytes n offset))
   unfolding crc_at
-  crc_done a b = rw (stream_done a b)
+  crc_done a b = rw (stream_done n bytes offset a b)

@@ -2,9 +2,7 @@
 -- Assumes nothing.
 use Rattle.std.specs.Prelude.{List, cond, ℕ, zero, suc, ◌+◌, eqb, length}
 use Rattle.lists.specs.Bits.{bit_at}
-use Rattle.lists.specs.Told.{Told, done, refused, tell}
-use Rattle.streams.specs.declared.distance.Distance.{Distance}
-use Rattle.streams.specs.declared.distance.Distance.TheVariants.{Is, Refused}
+use Rattle.lists.specs.Told.{Told, tell}
 use Rattle.streams.specs.Streams.{message_at, stream_number}
 
 -- in how many of the first n positions two strings of bits differ
@@ -15,11 +13,6 @@ differing x y (suc n) = differing x y n + cond (eqb (bit_at x n) (bit_at y n)) 0
 -- the number of a call with two streams
 unfoldable pub pair_number : List ℕ → List ℕ → ℕ → ℕ
 pair_number a b offset = cond (eqb (length a) 18) (stream_number 14 b offset) 2
-
--- an answer: its number, and the distance with number 0
-abbrev pub distance_told : Distance → Told ℕ
-distance_told (Is d) = done d
-distance_told (Refused n) = refused n
 
 -- in how many of the 112 positions the messages of two streams at a bit offset differ
 unfoldable pub distance_at : List ℕ → List ℕ → ℕ → Told ℕ

@@ -11,17 +11,20 @@ pub fn byte_at(bytes: &[u8], j: usize) -> u8
     let n = j / 8;
     let o = j % 8;
     if o == 0 {
-        return bytes[n];
+        bytes[n]
+    } else {
+        (bytes[n] << o) | (bytes[n + 1] >> (8 - o))
     }
-    (bytes[n] << o) | (bytes[n + 1] >> (8 - o))
 }
 
-// As many bytes as `message` has, from a bit offset on.
-pub fn copy_bits(bytes: &[u8], offset: usize, message: &mut [u8])
-    requires { (offset + 8 * length message.old ≤ 8 * length bytes.now) × (length bytes.now ≤ 18) }
-    ensures { message.new ≡ message_at bytes.now (length message.old) offset }
+// N bytes from a bit offset on.
+pub fn message_at<const N: usize>(bytes: &[u8], offset: usize) -> [u8; N]
+    requires { (offset + 8 * N ≤ 8 * length bytes.now) × (length bytes.now ≤ 18) }
+    ensures { result ≡ message_at bytes.now N offset }
 {
-    for k in 0..message.len() {
-        message[k] = byte_at(bytes, offset + 8 * k);
+    let mut message = [0u8; N];
+    for (k, byte) in message.iter_mut().enumerate() {
+        *byte = byte_at(bytes, offset + 8 * k);
     }
+    message
 }

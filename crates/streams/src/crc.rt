@@ -1,40 +1,29 @@
 // The remainder of the message at a bit offset of a stream.
-ghost use Rattle.std.specs.Prelude.{◌≡◌, ◌≤◌, length};
-ghost use Rattle.streams.specs.Remainders.{crc_told, crc_at};
+ghost use Rattle.std.specs.Prelude.{◌≡◌, ◌≤◌};
+ghost use Rattle.annex10.specs.Length.{message_bytes};
+ghost use Rattle.refusals.specs.Refusals.{told};
+ghost use Rattle.streams.specs.Remainders.{crc_at};
 
-use crate::bits::copy_bits;
-use crate::refusal::stream_number;
+use crate::message::extract;
+use annex10::MessageKind;
 use mode_s::crc::crc24;
+use refusals::Refusal;
 
-#[derive(Clone, Copy)]
-pub enum Crc {
-    Is(u32),
-    Refused(u32),
+// Of N bytes.
+#[tactic(auto, unfolding(crate::specs::Remainders::crc_at, crate::specs::Messages::extracted))]
+fn crc_of<const N: usize>(bytes: &[u8], offset: usize) -> Result<u32, Refusal>
+    requires { N ≤ 18 }
+    ensures { told result ≡ crc_at N bytes.now offset }
+{
+    let message: [u8; N] = extract(bytes, offset)?;
+    Ok(crc24(&message))
 }
 
-// Of as many bytes as `message` has, which is room for them.
-fn crc_of(bytes: &[u8], offset: usize, message: &mut [u8]) -> Crc
-    requires { length message.old ≤ 18 }
-    ensures { crc_told result ≡ crc_at (length message.old) bytes.now offset }
+pub fn compute_crc(kind: MessageKind, bytes: &[u8], offset: usize) -> Result<u32, Refusal>
+    ensures { told result ≡ crc_at (message_bytes kind) bytes.now offset }
 {
-    let number = stream_number(message.len(), bytes, offset);
-    if number != 0 {
-        return Crc::Refused(number);
+    match kind {
+        MessageKind::Short => crc_of::<7>(bytes, offset),
+        MessageKind::Long => crc_of::<14>(bytes, offset),
     }
-    copy_bits(bytes, offset, message);
-    Crc::Is(crc24(message))
-}
-
-pub fn compute_crc(bytes: &[u8], offset: usize) -> Crc
-    ensures { crc_told result ≡ crc_at 14 bytes.now offset }
-{
-    let mut message = [0u8; 14];
-    crc_of(bytes, offset, &mut message)
-}
-
-pub fn compute_crc_short(bytes: &[u8], offset: usize) -> Crc
-    ensures { crc_told result ≡ crc_at 7 bytes.now offset }
-{
-    let mut message = [0u8; 7];
-    crc_of(bytes, offset, &mut message)
 }

@@ -2,8 +2,8 @@
 #![tactic(auto)]
 
 mod bits;
+mod checks;
 pub mod crc;
 pub mod distance;
 pub mod header;
 pub mod message;
-mod refusal;

@@ -1,93 +1,61 @@
 // The message at a bit offset of a stream.
-ghost use Rattle.std.specs.Prelude.{◌≡◌, ◌≤◌, length, replicate};
-ghost use Rattle.parts.specs.Part.{size_told, size_at};
-ghost use Rattle.streams.specs.Messages.{extracted, part_message, as_short};
+ghost use Rattle.std.specs.Prelude.{◌≡◌, ◌≤◌};
+ghost use Rattle.refusals.specs.Refusals.{told};
+ghost use Rattle.parts.specs.Part.{size_at};
+ghost use Rattle.streams.specs.Messages.{extracted, part_message};
 
-use crate::bits::copy_bits;
-use crate::refusal::{part_number, stream_number};
-use parts::{PartSize, part_size, part_size_short};
+use crate::bits::message_at;
+use crate::checks::{check_part, check_stream};
+use annex10::MessageKind;
+use parts::part_size;
+use refusals::Refusal;
 
-// The bytes are zeros where the call is refused.
-#[derive(Clone, Copy)]
-pub struct Message {
-    pub number: u32,
-    pub bytes: [u8; 14],
-}
-
-#[derive(Clone, Copy)]
-pub struct ShortMessage {
-    pub number: u32,
-    pub bytes: [u8; 7],
-}
-
-// As many bytes as `message` has. Answers the call's number; the zeros stay where it is refused.
-fn extract(bytes: &[u8], offset: usize, message: &mut [u8]) -> u32
-    requires { (length message.old ≤ 18) × (message.old ≡ replicate (length message.old) 0) }
-    ensures { record { number = result; bytes = message.new } ≡ extracted (length message.old) bytes.now offset }
+// Of N bytes.
+#[tactic(auto, using(crate::proofs::Reading::opened), unfolding(crate::specs::Messages::extracted))]
+pub(crate) fn extract<const N: usize>(bytes: &[u8], offset: usize) -> Result<[u8; N], Refusal>
+    requires { N ≤ 18 }
+    ensures { told result ≡ extracted N bytes.now offset }
 {
-    let number = stream_number(message.len(), bytes, offset);
-    if number != 0 {
-        return number;
-    }
-    copy_bits(bytes, offset, message);
-    0
+    check_stream(N, bytes, offset)?;
+    Ok(message_at(bytes, offset))
 }
 
-pub fn extract_message(bytes: &[u8], offset: usize) -> Message
-    ensures { result ≡ extracted 14 bytes.now offset }
+pub fn extract_message(bytes: &[u8], offset: usize) -> Result<[u8; 14], Refusal>
+    ensures { told result ≡ extracted 14 bytes.now offset }
 {
-    let mut message = [0u8; 14];
-    let number = extract(bytes, offset, &mut message);
-    Message {
-        number,
-        bytes: message,
-    }
+    extract(bytes, offset)
 }
 
-pub fn extract_message_short(bytes: &[u8], offset: usize) -> ShortMessage
-    ensures { result ≡ as_short (extracted 7 bytes.now offset) }
+pub fn extract_message_short(bytes: &[u8], offset: usize) -> Result<[u8; 7], Refusal>
+    ensures { told result ≡ extracted 7 bytes.now offset }
 {
-    let mut message = [0u8; 7];
-    let number = extract(bytes, offset, &mut message);
-    ShortMessage {
-        number,
-        bytes: message,
-    }
+    extract(bytes, offset)
 }
 
 // The same of a part of a stream, which has that size.
-fn extract_part(size: PartSize, part: &[u8], offset: usize, message: &mut [u8]) -> u32
-    requires { (length message.old ≤ 17) × (message.old ≡ replicate (length message.old) 0) × (size_told size ≡ size_at (length message.old) offset) }
-    ensures { record { number = result; bytes = message.new } ≡ part_message (length message.old) part.now offset }
+#[tactic(auto, using(crate::proofs::Parting::parting), unfolding(crate::specs::Messages::part_message, crate::specs::Streams::part_number))]
+fn extract_part<const N: usize>(
+    size: Result<usize, Refusal>,
+    part: &[u8],
+    offset: usize,
+) -> Result<[u8; N], Refusal>
+    requires { (N ≤ 17) × (told size ≡ size_at N offset) }
+    ensures { told result ≡ part_message N part.now offset }
 {
-    let number = part_number(size, part);
-    if number != 0 {
-        return number;
-    }
-    copy_bits(part, offset % 8, message);
-    0
+    check_part(size, part)?;
+    Ok(message_at(part, offset % 8))
 }
 
 // The part: the 14 bytes in which the message lies, or 15 where its bit offset is no multiple of 8.
-pub fn message_from_part(part: &[u8], offset: usize) -> Message
-    ensures { result ≡ part_message 14 part.now offset }
+pub fn message_from_part(part: &[u8], offset: usize) -> Result<[u8; 14], Refusal>
+    ensures { told result ≡ part_message 14 part.now offset }
 {
-    let mut message = [0u8; 14];
-    let number = extract_part(part_size(offset), part, offset, &mut message);
-    Message {
-        number,
-        bytes: message,
-    }
+    extract_part(part_size(MessageKind::Long, offset), part, offset)
 }
 
 // 7 bytes, or 8.
-pub fn message_from_part_short(part: &[u8], offset: usize) -> ShortMessage
-    ensures { result ≡ as_short (part_message 7 part.now offset) }
+pub fn message_from_part_short(part: &[u8], offset: usize) -> Result<[u8; 7], Refusal>
+    ensures { told result ≡ part_message 7 part.now offset }
 {
-    let mut message = [0u8; 7];
-    let number = extract_part(part_size_short(offset), part, offset, &mut message);
-    ShortMessage {
-        number,
-        bytes: message,
-    }
+    extract_part(part_size(MessageKind::Short, offset), part, offset)
 }

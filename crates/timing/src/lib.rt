@@ -4,11 +4,13 @@
 mod turns;
 
 ghost use Rattle.std.specs.Prelude.{◌≡◌, true};
-ghost use Rattle.timing.specs.Subsample.{held, offset_of, fraction_of, timing_of};
+ghost use Rattle.timing.specs.Subsample.{offset_of, fraction_of, timing_of};
 ghost use Rattle.timing.specs.Inner.{in_range};
 
+use crate::turns::{Turned, settle_from};
+
 // Which place is the prompt: the reading's own, or a neighbour with more power.
-#[derive(Clone, Copy)]
+#[derive(Clone, Copy, Debug, PartialEq, Eq)]
 pub enum Offset {
     Earlier,
     Same,
@@ -16,29 +18,16 @@ pub enum Offset {
 }
 
 // By how many samples the index moves. No move is `On(0)`.
-#[derive(Clone, Copy)]
+#[derive(Clone, Copy, Debug, PartialEq, Eq)]
 pub enum Moves {
     Back(u64),
     On(u64),
 }
 
-#[derive(Clone, Copy)]
+#[derive(Clone, Copy, Debug, PartialEq)]
 pub struct Timing {
     pub moves: Moves,
     pub fraction: f32,
-}
-
-// Held to [-1, 1], as the Rust's `clamp(-1.0, 1.0)`: a NaN stays.
-fn hold(x: f32) -> f32
-    ensures { result ≡ held x }
-{
-    if x < -1.0 {
-        return -1.0;
-    }
-    if x > 1.0 {
-        return 1.0;
-    }
-    x
 }
 
 fn offset_of(offset: Offset) -> f32
@@ -51,11 +40,11 @@ fn offset_of(offset: Offset) -> f32
     }
 }
 
-// The powers are equal when the edge lies halfway between two samples, hence the half.
+// The parabola's value is held to [-1, 1]; a NaN stays. The powers are equal when the edge lies halfway between two samples, hence the half.
 fn fraction_of(parabola: f32, offset: Offset) -> f32
     ensures { result ≡ fraction_of parabola offset }
 {
-    (hold(parabola) + offset_of(offset)) - 0.5
+    (parabola.clamp(-1.0, 1.0) + offset_of(offset)) - 0.5
 }
 
 // The index starts at 4, so that it can go back.
@@ -63,20 +52,13 @@ fn rested(fraction: f32) -> Timing
     requires { in_range fraction ≡ true }
     ensures { result ≡ timing_of fraction }
 {
-    let t = turns::settle_from(4, fraction);
-    let index = t.index;
-    let rest = t.fraction;
-    if index < 4 {
-        Timing {
-            moves: Moves::Back(4 - index),
-            fraction: rest,
-        }
+    let Turned { index, fraction } = settle_from(4, fraction);
+    let moves = if index < 4 {
+        Moves::Back(4 - index)
     } else {
-        Timing {
-            moves: Moves::On(index - 4),
-            fraction: rest,
-        }
-    }
+        Moves::On(index - 4)
+    };
+    Timing { moves, fraction }
 }
 
 // From the parabola's value about the prompt to the moves and the fraction that is left.

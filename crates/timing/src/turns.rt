@@ -3,31 +3,25 @@ ghost use Rattle.std.specs.Prelude.{◌≡◌, true, ◌≤◌, ◌<◌, ◌+◌
 ghost use Rattle.timing.specs.Subsample.{after_moves, gained};
 ghost use Rattle.timing.specs.Inner.{in_range};
 
-#[derive(Clone, Copy)]
+#[derive(Clone, Copy, Debug, PartialEq)]
 pub struct Turned {
     pub index: u64,
     pub fraction: f32,
 }
 
-pub fn settle_from(index: u64, fraction: f32) -> Turned
+pub fn settle_from(mut index: u64, mut fraction: f32) -> Turned
     requires { (4 ≤ index) × (index + 4 < 2 ^ 64) × (in_range fraction ≡ true) }
     ensures { (result.fraction ≡ after_moves fraction) × (pos result.index ≡ pos index +ℤ gained fraction) }
 {
-    let mut i = index;
-    let mut f = fraction;
     loop {
-        if f < -0.5 {
-            i -= 1;
-            f = f + 1.0;
-        } else if f >= 0.5 {
-            i += 1;
-            f = f - 1.0;
+        if fraction < -0.5 {
+            index -= 1;
+            fraction += 1.0;
+        } else if fraction >= 0.5 {
+            index += 1;
+            fraction -= 1.0;
         } else {
-            break;
+            return Turned { index, fraction };
         }
-    }
-    Turned {
-        index: i,
-        fraction: f,
     }
 }

@@ -1,41 +1,45 @@
--- Bytes one by one.
+-- Numbers and floats by their bytes.
+--     word_is, long_is     the number of four bytes, and of eight
+--     float_is             the float of four bytes of a row
 -- Assumes nothing.
 use mathlib.Core.Path.{◌≡◌, refl, sym, ap, ◌∙◌}
-use mathlib.Core.List.{List, [], ◌∷◌}
-use Prim.Native.Nat.{ℕ, ◌+◌, ◌*◌, ◌≤◌}
-use native.Mathlib.Nat.{add-zero}
+use mathlib.Core.List.{List, []}
+use Prim.Native.Nat.{ℕ, zero, suc, ◌+◌, ◌*◌, ◌<◌}
 use native.Mathlib.Omega.{arith}
-use lib.ListN.{length, get_or, take, drop, length-take, length-drop}
-use lib.Seq.{get_or-take, get_or-drop}
+use lib.Ieee.{Float, binary32, of_bits}
+use lib.ListN.{length, get_or, take, drop}
+use lib.Seq.{drop-drop}
+use Rattle.std.specs.Int.{w32, w64, from_le_bytes}
+use Rattle.std.specs.Simd.{first_chunks}
 use Rattle.lists.specs.From.{from, tabulate}
 use Rattle.lists.proofs.Table.{tabulate_is}
-use Rattle.words.specs.Words.{little_endian}
+use Rattle.words.specs.Words.{little_endian, float_at}
 
 -- bytes are their elements
 whole : (n : ℕ) (b : List ℕ) → length b ≡ n → tabulate n (λ (k : ℕ). get_or b k 0) ≡ b
 whole n b h = sym (tabulate_is 0 (λ (k : ℕ). get_or b k 0) n b h (λ k i. refl))
 
--- four of them from a place on
-part : (b : List ℕ) (i : ℕ) → i + 4 ≤ length b → tabulate 4 (λ (k : ℕ). get_or b (i + k) 0) ≡ take 4 (drop i b)
-part b i h =
-    sym (tabulate_is 0 (λ (k : ℕ). get_or b (i + k) 0) 4 (take 4 (drop i b)) (simp (length-take, length-drop) (omega arith)) (λ k l. rw (get_or-take, get_or-drop)))
-
-pub word_is : (b : List ℕ) → length b ≡ 4 → little_endian (get_or b 0 0 ∷ get_or b 1 0 ∷ get_or b 2 0 ∷ get_or b 3 0 ∷ []) ≡ little_endian b
-unfolding tabulate from
-word_is b h = ap little_endian (whole 4 b h)
-
--- eight bytes from the numbers of their halves
-pub long_is : (b : List ℕ) → length b ≡ 8 → {l h : ℕ}
-    → l ≡ little_endian (get_or b 0 0 ∷ get_or b 1 0 ∷ get_or b 2 0 ∷ get_or b 3 0 ∷ [])
-    → h ≡ little_endian (get_or b 4 0 ∷ get_or b 5 0 ∷ get_or b 6 0 ∷ get_or b 7 0 ∷ [])
-    → l + 4294967296 * h ≡ little_endian b
+pub word_is : (b : List ℕ) → length b ≡ 4 → from_le_bytes w32 b ≡ little_endian b
 unfolding tabulate from little_endian
-long_is b n {l} {h} e f =
-    let halves : l + 4294967296 * h ≡ little_endian (tabulate 8 (λ (k : ℕ). get_or b k 0)) = omega arith in
-    halves ∙ ap little_endian (whole 8 b n)
+word_is b h =
+    let e : from_le_bytes w32 b ≡ little_endian (tabulate 4 (λ (k : ℕ). get_or b k 0)) = omega arith in
+    e ∙ ap little_endian (whole 4 b h)
 
-pub four_at : (b : List ℕ) (i : ℕ) → i + 4 ≤ length b
-    → get_or b i 0 ∷ get_or b (i + 1) 0 ∷ get_or b (i + 2) 0 ∷ get_or b (i + 3) 0 ∷ [] ≡ take 4 (drop i b)
-unfolding tabulate from
-four_at b i h =
-    ap (λ (k : ℕ). get_or b k 0 ∷ get_or b (i + 1) 0 ∷ get_or b (i + 2) 0 ∷ get_or b (i + 3) 0 ∷ []) (sym (add-zero i)) ∙ part b i h
+pub long_is : (b : List ℕ) → length b ≡ 8 → from_le_bytes w64 b ≡ little_endian b
+unfolding tabulate from little_endian
+long_is b h =
+    let e : from_le_bytes w64 b ≡ little_endian (tabulate 8 (λ (k : ℕ). get_or b k 0)) = omega arith in
+    e ∙ ap little_endian (whole 8 b h)
+
+-- four bytes of a row
+word_at : (b : List ℕ) (n k : ℕ) → k < n → get_or (first_chunks 4 n b) k [] ≡ take 4 (drop (4 * k) b)
+word_at b zero k h = absurd (omega arith)
+word_at b (suc n) zero h = refl
+word_at b (suc n) (suc k) h =
+    let e : 4 + 4 * k ≡ 4 * suc k = omega arith in
+    word_at (drop 4 b) n k (omega arith) ∙ ap (take 4) (drop-drop (4 * k) 4 b ∙ ap (λ (j : ℕ). drop j b) e)
+
+pub float_is : (b : List ℕ) (n k : ℕ) {words : List (List ℕ)} {w : ℕ} {x : Float} → words ≡ first_chunks 4 n b → k < n
+    → w ≡ little_endian (get_or words k []) → x ≡ of_bits binary32 w → x ≡ float_at b k
+unfolding float_at
+float_is b n k a h e d = d ∙ rw (e, a, word_at b n k h)

@@ -2,5 +2,4 @@
 #![tactic(auto)]
 
 pub mod float;
-mod join;
 pub mod numbers;

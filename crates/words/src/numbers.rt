@@ -2,18 +2,16 @@
 ghost use Rattle.std.specs.Prelude.{◌≡◌};
 ghost use Rattle.words.specs.Words.{little_endian};
 
-use crate::join::joined;
-
+#[tactic(auto, using(crate::proofs::Bytes::word_is))]
 pub fn word(b: [u8; 4]) -> u32
     ensures { result ≡ little_endian b }
 {
-    joined(b[0], b[1], b[2], b[3])
+    u32::from_le_bytes(b)
 }
 
+#[tactic(auto, using(crate::proofs::Bytes::long_is))]
 pub fn long(b: [u8; 8]) -> u64
     ensures { result ≡ little_endian b }
 {
-    let low = joined(b[0], b[1], b[2], b[3]);
-    let high = joined(b[4], b[5], b[6], b[7]);
-    low as u64 + 4294967296 * (high as u64)
+    u64::from_le_bytes(b)
 }

@@ -5,7 +5,7 @@
 
 ghost use Rattle.std.specs.Prelude.{◌≡◌, ◌≤◌, ◌<◌, length};
 
-use annex10::Repairs;
+use annex10::{MessageKind, Repairs};
 use kernels::symbols::accumulate_symbols;
 use mode_s::avr::format_avr;
 use place::Slicer;
@@ -13,7 +13,7 @@ use receiver::decode::decode;
 use search::{Answer, Settings};
 use slicing::slicers::demodulate;
 use std::io::Stdout;
-use streams::crc::{Crc, compute_crc};
+use streams::crc::compute_crc;
 use streams::message::extract_message;
 
 // The message that the first window holds.
@@ -39,33 +39,29 @@ fn say_number(output: Stdout, n: u64) {
 
 fn print_message(output: Stdout, bytes: [u8; 14]) {
     let mut line = [0u8; 30];
-    format_avr(&bytes, &mut line);
+    let _ = format_avr(&bytes, &mut line);
     say(output, &line);
 }
 
 // The message at a bit offset, and its remainder.
 fn show_stream(output: Stdout, stream: &[u8], bit: usize) {
-    let message = extract_message(stream, bit);
-    let bytes = message.bytes;
-    print_message(output, bytes);
-    match compute_crc(stream, bit) {
-        Crc::Is(r) => {
+    print_message(output, extract_message(stream, bit).unwrap_or([0; 14]));
+    match compute_crc(MessageKind::Long, stream, bit) {
+        Ok(remainder) => {
             say(output, b" remainder ");
-            say_number(output, r as u64);
+            say_number(output, u64::from(remainder));
         }
-        Crc::Refused(n) => {
+        Err(refusal) => {
             say(output, b" refused ");
-            say_number(output, n as u64);
+            say_number(output, u64::from(refusal.number()));
         }
     }
 }
 
 // The marks of its undecided bits, in the form of a message.
 fn show_marks(output: Stdout, marks: &[u8], bit: usize) {
-    let message = extract_message(marks, bit);
-    let bytes = message.bytes;
     say(output, b" undecided ");
-    print_message(output, bytes);
+    print_message(output, extract_message(marks, bit).unwrap_or([0; 14]));
     say(output, b"\n");
 }
 
@@ -77,7 +73,7 @@ fn show(output: Stdout, row: &[f32], bit: usize, symbol: usize)
     let mut noncoherent = [0u8; 36];
     let mut coherent_marks = [0u8; 36];
     let mut noncoherent_marks = [0u8; 36];
-    demodulate(
+    let _ = demodulate(
         row,
         &mut coherent,
         &mut noncoherent,
@@ -102,7 +98,7 @@ fn show_places(output: Stdout, symbols: &[f32])
 
 fn read(output: Stdout, samples: &[f32; 2310]) {
     let mut symbols = [0.0f32; 2304];
-    accumulate_symbols(samples, &mut symbols);
+    let _ = accumulate_symbols(samples, &mut symbols);
     show_places(output, &symbols);
 }
 
@@ -134,17 +130,9 @@ fn send_both(coherent: &[u8; 14], noncoherent: &[u8; 14], samples: &mut [f32; 23
         let n = bit_of(noncoherent, j);
         let first = 128 + 8 * j;
         let second = first + 4;
-        if c == 1 {
-            pulse(samples, first);
-        } else {
-            pulse(samples, second);
-        }
+        pulse(samples, if c == 1 { first } else { second });
         if c != n {
-            if n == 1 {
-                turned_pulse(samples, first);
-            } else {
-                turned_pulse(samples, second);
-            }
+            turned_pulse(samples, if n == 1 { first } else { second });
         }
     }
 }
@@ -163,19 +151,13 @@ fn print_word(output: Stdout, n: u64) {
     say_number(output, n);
 }
 
-fn wide(x: u8) -> u64 {
-    x as u64
-}
-
 fn print_repairs(output: Stdout, repairs: Repairs) {
     match repairs {
-        Repairs::None => {
-            say(output, b" none");
-        }
-        Repairs::One(j) => print_word(output, wide(j)),
+        Repairs::None => say(output, b" none"),
+        Repairs::One(j) => print_word(output, u64::from(j)),
         Repairs::Two(j, k) => {
-            print_word(output, wide(j));
-            print_word(output, wide(k));
+            print_word(output, u64::from(j));
+            print_word(output, u64::from(k));
         }
     }
 }
@@ -189,7 +171,7 @@ fn print_slicer(output: Stdout, slicer: Slicer) {
 
 // Whether it is above every finite number, and the fraction in halves.
 fn print_floats(output: Stdout, cn0: f32, fraction: f32) {
-    if cn0 == 1.0 / 0.0 {
+    if cn0 == f32::INFINITY {
         say(output, b" cn0 infinite");
     } else {
         say(output, b" cn0 finite");
@@ -202,27 +184,23 @@ fn print_floats(output: Stdout, cn0: f32, fraction: f32) {
 }
 
 fn print_answer(output: Stdout, a: Answer) {
-    say(output, b"decoded");
-    print_word(output, a.number as u64);
     let location = a.location;
-    let place = location.place;
-    print_word(output, place.bit as u64);
-    print_word(output, place.phase as u64);
-    print_word(output, place.symbol as u64);
+    say(output, b"decoded");
+    print_word(output, u64::from(a.number));
+    print_word(output, location.place.bit as u64);
+    print_word(output, location.place.phase as u64);
+    print_word(output, location.place.symbol as u64);
     say(output, b" ");
-    let bytes = a.message;
-    print_message(output, bytes);
-    let repairs = location.repairs;
-    print_repairs(output, repairs);
-    let slicer = location.slicer;
-    print_slicer(output, slicer);
+    print_message(output, a.message);
+    print_repairs(output, location.repairs);
+    print_slicer(output, location.slicer);
     print_floats(output, a.cn0, a.fraction);
     say(output, b" index");
     print_word(output, a.index);
     say(output, b" undecided");
-    print_word(output, a.undecided as u64);
+    print_word(output, u64::from(a.undecided));
     say(output, b" trial");
-    print_word(output, wide(location.trial));
+    print_word(output, u64::from(location.trial));
     say(output, b"\n");
 }
 

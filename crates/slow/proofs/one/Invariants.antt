@@ -1,7 +1,6 @@
 -- `slow::one` meets its contract. The loop: none of the first j positions clears the message. Assumes nothing.
 use mathlib.Core.Path.{◌≡◌}
-use Prim.Native.Nat.{ℕ, ◌*◌, ◌≤◌}
-use lib.ListN.{length}
+use Prim.Native.Nat.{ℕ}
 use Rattle.annex10.specs.declared.Repairs.TheVariants.{One}
 use Rattle.annex10.specs.declared.Found.TheVariants.{Nothing}
 use Rattle.annex10.specs.Repair.{seek}
@@ -9,4 +8,4 @@ use Rattle.annex10.specs.Mend.{tried}
 use Rattle.slow.proofs.one.Given as goal
 
 abbrev pub invariant-loop-j : goal.invariant-loop-j
-invariant-loop-j l = (l.message ≡ l.initial.message) × (l.j ≤ 8 * length l.initial.message) × (seek (λ (i : ℕ). tried l.initial.message (One i)) l.j ≡ Nothing)
+invariant-loop-j l = seek (λ (i : ℕ). tried l.message (One i)) l.j ≡ Nothing

@@ -1,6 +1,6 @@
 -- `slow::two_with` meets its contract. The loop: none of the first j positions clears the message with k. Assumes nothing.
 use mathlib.Core.Path.{◌≡◌}
-use Prim.Native.Nat.{ℕ, ◌≤◌}
+use Prim.Native.Nat.{ℕ}
 use Rattle.annex10.specs.declared.Repairs.TheVariants.{Two}
 use Rattle.annex10.specs.declared.Found.TheVariants.{Nothing}
 use Rattle.annex10.specs.Repair.{seek}
@@ -8,4 +8,4 @@ use Rattle.annex10.specs.Mend.{tried}
 use Rattle.slow.proofs.two_with.Given as goal
 
 abbrev pub invariant-loop-j : goal.invariant-loop-j
-invariant-loop-j l = (l.message ≡ l.initial.message) × (l.j ≤ l.k) × (seek (λ (i : ℕ). tried l.initial.message (Two i l.k)) l.j ≡ Nothing)
+invariant-loop-j l = seek (λ (i : ℕ). tried l.message (Two i l.k)) l.j ≡ Nothing

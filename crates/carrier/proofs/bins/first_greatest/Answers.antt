@@ -1,28 +1,16 @@
--- `carrier::bins::first_greatest` meets its contract. The loop: the holder is the first greatest of the bins before j. Assumes nothing.
-use mathlib.Core.Path.{◌≡◌}
+-- `carrier::bins::first_greatest` meets its contract. The loop: the holder is the first greatest of the bins before start + j. Assumes nothing.
+use Prim.Native.Nat.{◌-◌, ◌<◌}
 use native.Mathlib.Omega.{arith}
-use borrow.Author.Rules.{rules}
-use Rattle.carrier.specs.Peaks.{bin_at}
-use Rattle.carrier.proofs.Walking.{peak_none, peak_took, peak_kept}
+use lib.Ieee.{Float}
+use Rattle.std.proofs.lemmas.List.{length-take, length-drop}
+use Rattle.carrier.proofs.Walking.{peak_took, peak_kept}
 use Rattle.carrier.proofs.bins.first_greatest.Goals as goal
-use Rattle.carrier.proofs.bins.first_greatest.Goals.{then-spectrum-j, else-spectrum-j}
-
-pub loop-j-init : goal.loop-j-init
-loop-j-init c = (search rules, search rules, peak_none _ _)
+use Rattle.carrier.proofs.bins.first_greatest.Goals.{then-value-best, else-value-best}
 
 pub loop-j-preserved : goal.loop-j-preserved
-unfolding bin_at
 loop-j-preserved c =
-    let inv = c.loop-j.invariant in (
-      search rules,
-      search rules,
-      elim c.if-spectrum-j.branch [
-        | then-spectrum-j w ↦ peak_took _ _ _ inv.0 inv.2 w.if-spectrum-j.true w.best-is
-        | else-spectrum-j w ↦ peak_kept _ _ _ inv.0 inv.2 w.if-spectrum-j.false w.best-is
-      ],
-    )
-
-pub returns : goal.returns
-returns c =
-    let e : c.loop-j.j ≡ c.args.end = omega arith in
-    rw e at c.loop-j.invariant.2
+    let h : c.loop-j.j < c.args.end - c.args.start = omega (arith, length-take {A = Float}, length-drop {A = Float}) in
+    elim c.if-value-best.branch [
+      | then-value-best w ↦ peak_took _ _ _ _ h c.loop-j.invariant w.if-value-best.true w.best-is
+      | else-value-best w ↦ peak_kept _ _ _ _ h c.loop-j.invariant w.if-value-best.false w.best-is
+    ]

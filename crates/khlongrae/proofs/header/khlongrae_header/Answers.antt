@@ -1,9 +1,12 @@
--- `khlongrae::header::khlongrae_header` meets its contract. Assumes nothing.
-use mathlib.Core.Path.{refl}
+-- `khlongrae::header::khlongrae_header` meets its contract: the counted positions, and then the check. Assumes nothing.
+use mathlib.Core.Path.{ap, ◌∙◌}
 use native.Mathlib.Omega.{arith}
+use borrow.Author.Rules.{rules}
 use Rattle.search.specs.Kinds.{long}
+use Rattle.khlongrae.specs.Headers.{flat_header}
+use Rattle.khlongrae.proofs.Heads.{header_checked}
 use Rattle.khlongrae.proofs.header.khlongrae_header.Goals as goal
 
-pub check_counted-requires : goal.check_counted-requires
+pub returns : goal.returns
 unfolding long
-check_counted-requires c = (refl, omega arith)
+returns c = c.into.ensures ∙ ap flat_header (header_checked long _ _ _ _ _ _ (omega arith) c.counted_repairs.ensures (search rules))

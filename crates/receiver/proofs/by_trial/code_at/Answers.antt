@@ -12,7 +12,7 @@ use Rattle.scan.specs.Lanes.{lane_bytes}
 use Rattle.receiver.specs.Inner.{kind_of}
 use Rattle.receiver.proofs.EitherKind.{right}
 use Rattle.receiver.proofs.ByLane.{lane_length}
-use Rattle.receiver.proofs.ByTrial.{code_tried, never_refused}
+use Rattle.receiver.proofs.ByTrial.{code_tried}
 use Rattle.receiver.proofs.by_trial.code_at.Goals as goal
 
 pub overflow_mul-place : goal.overflow_mul-place
@@ -35,18 +35,11 @@ mend-requires c =
     let l = listed_gives (kind_of c.args.kind).last c.args.place c.requires.1 in
     record { size = ap length c.lane_of-stream.ensures ∙ lane_length c.args.bits.now _; low = omega (arith, l.to, (right c.args.kind).last) }
 
-pub returns-in-Is : goal.returns-in-Is
-returns-in-Is c =
+pub returns : goal.returns
+returns c =
     let k = kind_of c.args.kind in
     let p = c.args.place in
     let lane = 4 * p.symbol + p.phase in
     let e = c.mend.ensures ∙ ap (λ (x : List ℕ). repair_of k.bytes k.most c.args.level (message_at x k.bytes p.bit)) c.lane_of-stream.ensures in
-    code_tried k.bytes k.most c.args.level (message_at (lane_bytes c.args.bits.now lane) k.bytes p.bit) (message_length_law (lane_bytes c.args.bits.now lane) k.bytes p.bit) c.requires.2 e c.in-Is.is c.code_of.ensures
-
-pub returns-in-Refused : goal.returns-in-Refused
-returns-in-Refused c =
-    let k = kind_of c.args.kind in
-    let p = c.args.place in
-    let lane = 4 * p.symbol + p.phase in
-    let e = c.mend.ensures ∙ ap (λ (x : List ℕ). repair_of k.bytes k.most c.args.level (message_at x k.bytes p.bit)) c.lane_of-stream.ensures in
-    absurd (never_refused k.bytes k.most c.args.level (message_at (lane_bytes c.args.bits.now lane) k.bytes p.bit) (message_length_law (lane_bytes c.args.bits.now lane) k.bytes p.bit) c.requires.2 e c.in-Refused.is)
+    code_tried k.bytes k.most c.args.level (message_at (lane_bytes c.args.bits.now lane) k.bytes p.bit) (message_length_law (lane_bytes c.args.bits.now lane) k.bytes p.bit) c.requires.2
+    c.mend.result e c.unwrap_or.ensures c.code_of.ensures

@@ -13,9 +13,9 @@ pub returns-then-i-eq0 : goal.returns-then-i-eq0
 unfolding trial_code
 returns-then-i-eq0 c = c.code_at.ensures ∙ rw (c.place_at-place.ensures, c.if-i-eq0.true)
 
-pub code_at-requires-2 : goal.code_at-requires-2
-code_at-requires-2 c = (c.requires.1, rw c.place_at-place.ensures (listed_at (kind_of c.args.kind).last _ (omega (arith, c.requires.3))), c.requires.2)
+pub code_at-requires-else-i-eq0 : goal.code_at-requires-else-i-eq0
+code_at-requires-else-i-eq0 c = (c.requires.1, rw c.place_at-place.ensures (listed_at (kind_of c.args.kind).last _ (omega (arith, c.requires.3))), c.requires.2)
 
-pub returns : goal.returns
+pub returns-else-i-eq0 : goal.returns-else-i-eq0
 unfolding trial_code
-returns c = c.code_at-2.ensures ∙ rw (c.place_at-place.ensures, ne_eqb _ 0 c.if-i-eq0.false)
+returns-else-i-eq0 c = c.code_at-else-i-eq0.ensures ∙ rw (c.place_at-place.ensures, ne_eqb _ 0 c.if-i-eq0.false)

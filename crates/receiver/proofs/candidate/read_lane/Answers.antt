@@ -56,4 +56,4 @@ returns-in-Fail c =
     let known = subst (λ (m : ℕ). Known k m first second a.place.bit a.c a.d a.apart) (sym level.ensures) c.requires.5 in
     let read = lane_reading k a.coherent.now a.noncoherent.now a.lane a.place.bit c.requires.2 (right a.kind) level.result a.place known c.first_of-first.ensures c.first_of-second.ensures c.try_six.ensures in
     let t = sym read ∙ c.in-Fail.is in
-    read_fail k (right a.kind) a.samples.now a.row.now first second a.place a.s (rw level.ensures at t) c.nothing.ensures
+    read_fail k (right a.kind) a.samples.now a.row.now first second a.place a.s (rw level.ensures at t)

@@ -1,6 +1,6 @@
 -- `receiver::codes::bit_errors_of` meets its contract. Assumes nothing.
 use native.Mathlib.Omega.{arith}
-use lib.Bits.{mask_lt, and_mask}
+use lib.Bits.{and_mask}
 use borrow.Author.Tests.{eq-eqb, ne_eqb, le-leb, lt-leb}
 use Rattle.receiver.specs.Inner.{repairs_of, found_of}
 use Rattle.receiver.proofs.codes.bit_errors_of.Goals as goal
@@ -9,29 +9,18 @@ pub returns-then-code-gt65535 : goal.returns-then-code-gt65535
 unfolding found_of
 returns-then-code-gt65535 c = simp (le-leb 65536 c.args.code (omega arith))
 
-pub overflow_cast-second : goal.overflow_cast-second
-overflow_cast-second c = omega (arith, mask_lt c.args.code 8)
-
-pub returns-then-first : goal.returns-then-first
+pub returns-in-255-default : goal.returns-in-255-default
 unfolding found_of repairs_of
-returns-then-first c = simp (lt-leb 65536 c.args.code (omega arith), eq-eqb _ _ c.if-first.true)
+returns-in-255-default c = simp (lt-leb 65536 c.args.code (omega arith), eq-eqb _ _ c.in-255-default.is-0)
 
-pub returns-then-second : goal.returns-then-second
+pub returns-in_default-eq255 : goal.returns-in_default-eq255
 unfolding found_of repairs_of
-returns-then-second c =
-    simp (
-      lt-leb 65536 c.args.code (omega arith),
-      ne_eqb _ _ c.if-first.false,
-      ← and_mask c.args.code 8,
-      eq-eqb _ _ c.if-second.true,
-    )
+returns-in_default-eq255 c =
+    let f = c.in_default-eq255 in
+    simp (lt-leb 65536 c.args.code (omega arith), ne_eqb _ _ f.is-0.1, ← and_mask c.args.code 8, eq-eqb _ _ f.is-1)
 
-pub returns : goal.returns
+pub returns-in_default : goal.returns-in_default
 unfolding found_of repairs_of
-returns c =
-    simp (
-      lt-leb 65536 c.args.code (omega arith),
-      ne_eqb _ _ c.if-first.false,
-      ← and_mask c.args.code 8,
-      ne_eqb _ _ c.if-second.false,
-    )
+returns-in_default c =
+    let f = c.in_default in
+    simp (lt-leb 65536 c.args.code (omega arith), ne_eqb _ _ f.is-0.1, ← and_mask c.args.code 8, ne_eqb _ _ f.is-1.1)

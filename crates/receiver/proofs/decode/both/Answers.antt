@@ -1,12 +1,8 @@
 -- `receiver::decode::both` meets its contract. Assumes nothing.
-use mathlib.Core.Path.{refl, ap, ◌∙◌}
-use mathlib.Core.Logic.{inl}
+use mathlib.Core.Path.{ap, ◌∙◌}
 use Rattle.search.specs.Short.{short_answer}
 use Rattle.receiver.proofs.Deciding.{both_are}
 use Rattle.receiver.proofs.decode.both.Goals as goal
-
-pub both_in-both-requires : goal.both_in-both-requires
-both_in-both-requires c = (refl, inl (refl, refl))
 
 pub returns : goal.returns
 returns c =

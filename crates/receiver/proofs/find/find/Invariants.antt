@@ -2,7 +2,6 @@
 -- Assumes nothing.
 use mathlib.Core.Path.{◌≡◌}
 use mathlib.Core.Option.{none}
-use Prim.Native.Nat.{◌-◌, ◌≤◌}
 use lib.ListN.{take}
 use Rattle.place.specs.All.{place_at}
 use Rattle.search.specs.Choice.{candidate_at}
@@ -11,7 +10,4 @@ use Rattle.receiver.specs.Inner.{kind_of, held_of, over}
 use Rattle.receiver.proofs.find.find.Given as goal
 
 abbrev pub invariant-loop-q : goal.invariant-loop-q
-invariant-loop-q l = (l.q ≤ l.count) × (l.held ≡ held_of (kind_of l.kind) (over (candidate_at (kind_of l.kind) l.s (seen (kind_of l.kind) l.samples)) place_at none (take l.q l.list)))
-
-abbrev pub decreases-loop-q : goal.decreases-loop-q
-decreases-loop-q l = l.count - l.q
+invariant-loop-q l = l.held ≡ held_of (kind_of l.scan.kind) (over (candidate_at (kind_of l.scan.kind) l.s (seen (kind_of l.scan.kind) l.scan.samples.now)) place_at none (take l.q l.places.numbers.now))

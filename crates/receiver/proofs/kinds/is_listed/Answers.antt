@@ -1,11 +1,6 @@
 -- `receiver::kinds::is_listed` meets its contract. Assumes nothing.
-use Rattle.search.specs.Kinds.{long, short}
+use Rattle.receiver.proofs.EitherKind.{kind_last}
 use Rattle.receiver.proofs.kinds.is_listed.Goals as goal
 
-pub returns-in-Long : goal.returns-in-Long
-unfolding long
-returns-in-Long c = rw c.in-Long.is c.is_listed.ensures
-
-pub returns-in-Short : goal.returns-in-Short
-unfolding short
-returns-in-Short c = rw c.in-Short.is c.is_listed_short.ensures
+pub returns : goal.returns
+returns c = rw (kind_last c.args.kind) c.is_listed.ensures

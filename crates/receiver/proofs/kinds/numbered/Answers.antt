@@ -1,11 +1,6 @@
 -- `receiver::kinds::numbered` meets its contract. Assumes nothing.
-use Rattle.search.specs.Kinds.{long, short}
+use Rattle.receiver.proofs.EitherKind.{kind_last}
 use Rattle.receiver.proofs.kinds.numbered.Goals as goal
 
-pub returns-in-Long : goal.returns-in-Long
-unfolding long
-returns-in-Long c = rw c.in-Long.is c.at.ensures
-
-pub returns-in-Short : goal.returns-in-Short
-unfolding short
-returns-in-Short c = rw c.in-Short.is c.at_short.ensures
+pub returns : goal.returns
+returns c = rw (kind_last c.args.kind) c.at.ensures

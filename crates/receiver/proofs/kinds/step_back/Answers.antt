@@ -1,11 +1,6 @@
 -- `receiver::kinds::step_back` meets its contract. Assumes nothing.
-use Rattle.search.specs.Kinds.{long, short}
+use Rattle.receiver.proofs.EitherKind.{kind_bytes}
 use Rattle.receiver.proofs.kinds.step_back.Goals as goal
 
-pub returns-in-Long : goal.returns-in-Long
-unfolding long
-returns-in-Long c = rw c.in-Long.is c.earlier.ensures
-
-pub returns-in-Short : goal.returns-in-Short
-unfolding short
-returns-in-Short c = rw c.in-Short.is c.earlier_short.ensures
+pub returns : goal.returns
+returns c = rw (kind_bytes c.args.kind) c.earlier.ensures

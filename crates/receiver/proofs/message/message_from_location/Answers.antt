@@ -4,7 +4,7 @@ use mathlib.Core.Path.{◌≡◌, ap, ◌∙◌, subst}
 use mathlib.Core.List.{List, ◌++◌}
 use Prim.Native.Nat.{ℕ}
 use lib.ListN.{replicate}
-use Rattle.mode_s.specs.declared.message.MessageKind.{MessageKind}
+use Rattle.annex10.specs.declared.MessageKind.{MessageKind}
 use Rattle.mode_s.specs.declared.message.ModeSMessage.{ModeSMessage}
 use Rattle.place.specs.Agrees.{location_number}
 use Rattle.parts.specs.Part.{chosen}

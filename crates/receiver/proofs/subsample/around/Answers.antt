@@ -3,6 +3,7 @@ use mathlib.Core.Path.{ap}
 use native.Mathlib.Omega.{arith}
 use Rattle.place.specs.declared.location.Location.{Location}
 use Rattle.receiver.specs.Inner.{kind_of}
+use Rattle.receiver.proofs.Never.{unwrapped}
 use Rattle.receiver.proofs.EitherKind.{right}
 use Rattle.receiver.proofs.Prompting.{room, around_is, back, on}
 use Rattle.receiver.proofs.subsample.around.Goals as goal
@@ -30,4 +31,8 @@ later-requires c =
     (c.later-after.ensures.1, omega (arith, b, r.high))
 
 pub returns : goal.returns
-returns c = around_is (kind_of c.args.kind) (right c.args.kind) c.args.symbols.now c.args.message.now c.args.location c.requires.0 c.requires.1.place c.requires.2 c.earlier-before.ensures c.later-after.ensures c.earlier.ensures c.later.ensures c.symbols_at.ensures c.symbols_at-2.ensures c.symbols_at-3.ensures c.symbols_at-4.ensures c.powers_around.ensures
+returns c =
+    let a = c.args in
+    unwrapped _ _ c.unwrap_or.ensures
+    (around_is (kind_of a.kind) (right a.kind) a.symbols.now a.message.now a.location c.requires.0 c.requires.1.place c.requires.2 c.earlier-before.ensures c.later-after.ensures
+    c.earlier.ensures c.later.ensures c.symbols_at.ensures c.symbols_at-2.ensures c.symbols_at-3.ensures c.symbols_at-4.ensures c.powers_around.ensures)

@@ -5,5 +5,5 @@ use Rattle.receiver.proofs.tray.have_room.Goals as goal
 pub returns-then-both : goal.returns-then-both
 returns-then-both c = let a = c.args in room_is a.both a.n _ _ _ (sizes_both c.if-both.true) c.have_lengths.ensures
 
-pub returns : goal.returns
-returns c = let a = c.args in room_is a.both a.n _ _ _ (sizes_long c.if-both.false) c.have_lengths-2.ensures
+pub returns-else-both : goal.returns-else-both
+returns-else-both c = let a = c.args in room_is a.both a.n _ _ _ (sizes_long c.if-both.false) c.have_lengths-else-both.ensures

@@ -10,8 +10,8 @@ pub step_both-requires : goal.step_both-requires
 step_both-requires c =
     let p = c.requires in
     let z = sizes_both c.if-both.true in
-    let n = c.args.n in
-    (p.0, p.1, p.2, p.3, p.4, p.5, p.6 ∙ ap (λ (w : ℕ). w * n) z.0, p.7 ∙ ap (λ (w : ℕ). w * n) z.1, p.8 ∙ ap (λ (w : ℕ). w * n) z.2)
+    let n = c.args.w.now.n in
+    (p.0, p.1, p.2 ∙ ap (λ (w : ℕ). w * n) z.0, p.3 ∙ ap (λ (w : ℕ). w * n) z.1, p.4 ∙ ap (λ (w : ℕ). w * n) z.2)
 
 pub returns-then-both : goal.returns-then-both
 unfolding kinds_of bytes_in long short
@@ -21,9 +21,9 @@ pub step_long-requires : goal.step_long-requires
 step_long-requires c =
     let p = c.requires in
     let z = sizes_long c.if-both.false in
-    let n = c.args.n in
-    (p.0, p.1, p.2, p.3, p.4, p.5, p.6 ∙ ap (λ (w : ℕ). w * n) z.0, p.7 ∙ ap (λ (w : ℕ). w * n) z.1, p.8 ∙ ap (λ (w : ℕ). w * n) z.2)
+    let n = c.args.w.now.n in
+    (p.0, p.1, p.2 ∙ ap (λ (w : ℕ). w * n) z.0, p.3 ∙ ap (λ (w : ℕ). w * n) z.1, p.4 ∙ ap (λ (w : ℕ). w * n) z.2)
 
-pub returns : goal.returns
+pub returns-else-both : goal.returns-else-both
 unfolding kinds_of bytes_in long
-returns c = rw c.if-both.false c.step_long.ensures
+returns-else-both c = rw c.if-both.false c.step_long.ensures

@@ -9,16 +9,17 @@ pub put_both-requires : goal.put_both-requires
 put_both-requires c =
     let a = c.args in
     let p = c.requires in (
-      part_size_law (21 * a.k) _ 21 _ refl (omega (arith, p.0, p.6)),
-      part_size_law (22 * a.k) _ 22 _ refl (omega (arith, p.0, p.7)),
-      part_size_law (4 * a.k) _ 4 _ refl (omega (arith, p.0, p.8)),
+      part_size_law (21 * a.k) _ 21 _ refl (omega (arith, p.0, p.2)),
+      part_size_law (22 * a.k) _ 22 _ refl (omega (arith, p.0, p.3)),
+      part_size_law (4 * a.k) _ 4 _ refl (omega (arith, p.0, p.4)),
       long_size _ _ _ c.both_at-a.ensures.0,
     )
 
 pub returns : goal.returns
 returns c =
     let a = c.args in
+    let w = a.w.now in
     let e = c.put_both.ensures in
     let b = c.both_at-a in
-    let rows = both_rows a.samples.now a.s a.indices.now a.k b.result.long b.result.short b.ensures.0 b.ensures.1 e.0 e.1 e.2 in
+    let rows = both_rows w.samples.now w.s w.indices.now a.k b.result.long b.result.short b.ensures.0 b.ensures.1 e.0 e.1 e.2 in
     (placed (21 * a.k) _ 21 _ refl rows.0, placed (22 * a.k) _ 22 _ refl rows.1, placed (4 * a.k) _ 4 _ refl rows.2)

@@ -1,12 +1,12 @@
 -- `receiver::trials::try_decode` meets its contract: a refusal, or what the six trials give with what clears the messages' own remainders.
 -- Assumes nothing.
-use mathlib.Core.Path.{◌∙◌, ap}
+use mathlib.Core.Path.{refl, ◌∙◌, ap}
 use mathlib.Core.List.{List}
 use Prim.Native.Nat.{ℕ, ◌<◌}
 use native.Mathlib.Omega.{arith}
 use lib.ListN.{length}
 use Rattle.lists.specs.Told.{done}
-use Rattle.lists.proofs.Telling.{told_refused, told_done}
+use Rattle.lists.proofs.Telling.{told_done}
 use Rattle.annex10.specs.Any.{clearing_any}
 use Rattle.streams.specs.Streams.{message_at}
 use Rattle.streams.proofs.Reading.{message_length_law}
@@ -16,21 +16,17 @@ use Rattle.receiver.proofs.Answering.{try_opened}
 use Rattle.receiver.proofs.Turns.{reading_first, any_finds}
 use Rattle.receiver.proofs.trials.try_decode.Goals as goal
 
-pub returns-then-number-ne0 : goal.returns-then-number-ne0
-unfolding tried_at
-returns-then-number-ne0 c = told_refused _ c.try_number-number.ensures c.if-number-ne0.true
-
 pub crc_at-c-requires : goal.crc_at-c-requires
-crc_at-c-requires c = let t = try_opened _ _ _ _ c.try_number-number.ensures c.if-number-ne0.false in (t.size, t.low)
+crc_at-c-requires c = let t = try_opened _ _ _ _ c.in_ok-check_try.ensures refl in (t.size, t.low)
 
 pub crc_at-d-requires : goal.crc_at-d-requires
-crc_at-d-requires c = let t = try_opened _ _ _ _ c.try_number-number.ensures c.if-number-ne0.false in (t.other, t.low)
+crc_at-d-requires c = let t = try_opened _ _ _ _ c.in_ok-check_try.ensures refl in (t.other, t.low)
 
 pub first_at-requires : goal.first_at-requires
-first_at-requires c = let t = try_opened _ _ _ _ c.try_number-number.ensures c.if-number-ne0.false in (t.size, t.low)
+first_at-requires c = let t = try_opened _ _ _ _ c.in_ok-check_try.ensures refl in (t.size, t.low)
 
 pub first_at-requires-2 : goal.first_at-requires-2
-first_at-requires-2 c = let t = try_opened _ _ _ _ c.try_number-number.ensures c.if-number-ne0.false in (t.other, t.low)
+first_at-requires-2 c = let t = try_opened _ _ _ _ c.in_ok-check_try.ensures refl in (t.other, t.low)
 
 pub try_six-requires : goal.try_six-requires
 try_six-requires c = ((any_finds 0 _ c.bit_errors.ensures).lies, (any_finds 0 _ c.bit_errors-2.ensures).lies)
@@ -46,4 +42,4 @@ returns c =
     reading_first long a.level a.place (message_at a.coherent.now 14 a.place.bit) (message_at a.noncoherent.now 14 a.place.bit)
     (whole a.coherent.now) (whole a.noncoherent.now) c.first_at.ensures c.first_at-2.ensures
     (any_finds _ _ (c.bit_errors.ensures ∙ ap (clearing_any 14) e)) (any_finds _ _ (c.bit_errors-2.ensures ∙ ap (clearing_any 14) f)) (rw (e, f)) c.try_six.ensures in
-    ap done t ∙ told_done _ c.try_number-number.ensures c.if-number-ne0.false
+    ap done t ∙ told_done _ c.in_ok-check_try.ensures refl

@@ -8,4 +8,4 @@ use Rattle.receiver.proofs.window.best_either.Goals as goal
 pub best_by_trial-requires : goal.best_by_trial-requires
 best_by_trial-requires c =
     let p = c.requires in
-    (p.0, p.1, p.2, p.3, ap length p.4 ∙ length-replicate (16 * (kind_of c.args.kind).last) 0)
+    (p.0, p.1, ap length p.2 ∙ length-replicate (16 * (kind_of c.args.scan.now.kind).last) 0)

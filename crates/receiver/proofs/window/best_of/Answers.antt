@@ -4,11 +4,11 @@ use Rattle.search.specs.Kinds.{long}
 use Rattle.receiver.proofs.Finding.{scan_done}
 use Rattle.receiver.proofs.window.best_of.Goals as goal
 
-pub best_long-requires : goal.best_long-requires
+pub invariant_of-scanned : goal.invariant_of-scanned
 unfolding long
-best_long-requires c =
+invariant_of-scanned c =
     let w = scan_done long _ _ _ _ _ _ c.requires.0 c.requires.2 refl refl refl refl c.scan.ensures in
-    (w.0, c.requires.1, w.1, c.requires.3)
+    record { scanned = w.0; summed = w.1 }
 
 pub returns : goal.returns
 unfolding long

@@ -5,15 +5,15 @@ use Rattle.receiver.proofs.Finding.{both_scanned}
 use Rattle.kernels.proofs.Summing.{sums_length}
 use Rattle.receiver.proofs.window.best_of_both.Goals as goal
 
-pub best_long-long-requires : goal.best_long-long-requires
-best_long-long-requires c =
+pub invariant_of-long : goal.invariant_of-long
+invariant_of-long c =
     let w = both_scanned _ _ _ _ _ _ _ _ c.requires.0 c.requires.2 refl refl refl refl refl refl c.scan_both.ensures in
-    (w.0, c.requires.1, w.2, c.requires.3)
+    record { scanned = w.0; summed = w.2 }
 
-pub best_short-short-requires : goal.best_short-short-requires
-best_short-short-requires c =
+pub invariant_of-short : goal.invariant_of-short
+invariant_of-short c =
     let w = both_scanned _ _ _ _ _ _ _ _ c.requires.0 c.requires.2 refl refl refl refl refl refl c.scan_both.ensures in
-    (w.1, c.requires.1, w.2, c.requires.3)
+    record { scanned = w.1; summed = w.2 }
 
 pub shape_of-sums : goal.shape_of-sums
 shape_of-sums c =
@@ -23,4 +23,4 @@ shape_of-sums c =
 pub returns : goal.returns
 returns c =
     let w = both_scanned _ _ _ _ _ _ _ _ c.requires.0 c.requires.2 refl refl refl refl refl refl c.scan_both.ensures in
-    (c.best_long-long.ensures, c.best_short-short.ensures, w.2)
+    (c.best_long.ensures, c.best_short.ensures, w.2)

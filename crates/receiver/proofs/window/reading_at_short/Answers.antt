@@ -4,8 +4,8 @@ use Rattle.search.specs.Kinds.{short}
 use Rattle.receiver.proofs.Finding.{scan_done}
 use Rattle.receiver.proofs.window.reading_at_short.Goals as goal
 
-pub read_alone-requires : goal.read_alone-requires
+pub invariant_of-scanned : goal.invariant_of-scanned
 unfolding short
-read_alone-requires c =
-    let w = scan_done short _ _ _ _ _ _ c.requires.0 refl refl refl refl refl c.scan_short.ensures in
-    (w.0, c.requires.1, c.requires.2, w.1)
+invariant_of-scanned c =
+    let w = scan_done short _ _ _ _ _ _ c.requires.0 refl refl refl refl refl c.scan.ensures in
+    record { scanned = w.0; summed = w.1 }

@@ -1,15 +1,8 @@
--- `repairs::named::clears` meets its contract. Assumes nothing.
-use Rattle.repairs.specs.Inner.{cleared_by}
+-- `repairs::named::clears` meets its contract: two patterns together are that of both. Assumes nothing.
+use Rattle.repairs.proofs.Naming.{cleared_two}
 use Rattle.repairs.proofs.named.clears.Goals as goal
 
-pub returns-in-None : goal.returns-in-None
-unfolding cleared_by
-returns-in-None c = rw c.in-None.is
-
-pub returns-in-One : goal.returns-in-One
-unfolding cleared_by
-returns-in-One c = rw c.in-One.is c.clears_one.ensures
-
-pub returns-in-Two : goal.returns-in-Two
-unfolding cleared_by
-returns-in-Two c = rw c.in-Two.is c.clears_two.ensures
+pub returns-then-k-lt112 : goal.returns-then-k-lt112
+returns-then-k-lt112 c =
+    let h = c.if-k-lt112.true in
+    rw c.in-Two.is (cleared_two _ _ _ h.0 h.1 c.pattern_of-then-k-lt112.ensures c.pattern_of-then-k-lt112-2.ensures)

@@ -1,4 +1,4 @@
--- `scan::bits::compare` meets its contract. The loops: the bits before i are stored. Assumes nothing.
+-- `scan::bits::compare` meets its contract. The loop: the bits before i are stored. Assumes nothing.
 use Rattle.std.proofs.Common.{◌≤◌}
 use Rattle.lists.proofs.Table.{Done}
 use Rattle.scan.specs.Inner.{bit_in}
@@ -6,6 +6,3 @@ use Rattle.scan.proofs.bits.compare.Given as goal
 
 abbrev pub invariant-loop-i : goal.invariant-loop-i
 invariant-loop-i l = (l.i ≤ 1148) × Done 0 (bit_in l.row) 1152 l.bits l.i
-
-abbrev pub invariant-loop-i-2 : goal.invariant-loop-i-2
-invariant-loop-i-2 l = (1148 ≤ l.i) × (l.i ≤ 1152) × Done 0 (bit_in l.row) 1152 l.bits l.i

@@ -1,13 +1,10 @@
 -- `scan::crcs::roll_rows` meets its contract. The loop: the remainders before number i + 8 are stored. Assumes nothing.
-use Rattle.std.proofs.Common.{◌≡◌, ◌+◌, sym, ◌∙◌, arith}
+use Rattle.std.proofs.Common.{◌≡◌, ◌+◌, arith}
 use Rattle.lists.proofs.Table.{done_more, done_all}
 use Rattle.scan.specs.Flat.{crcs_in}
 use Rattle.scan.proofs.Comparing.{done_at}
 use Rattle.scan.proofs.Rolled.{crc_next, crc_lt}
 use Rattle.scan.proofs.crcs.roll_rows.Goals as goal
-
-pub loop-i-init : goal.loop-i-init
-loop-i-init c = (omega arith, c.requires.4, c.requires.5)
 
 pub roll-requires : goal.roll-requires
 roll-requires c =
@@ -31,12 +28,6 @@ loop-i-preserved c =
       done_at _ _ _ _ e (done_more _ _ _ _ (l.i + 8) _ (omega (arith, t)) l.invariant.1 (crc_next c.args.n c.args.power _ p.1 p.2 l.i (l.invariant.1.each l.i (omega arith)) c.roll.ensures)),
       done_at _ _ _ _ e (done_more _ _ _ _ (l.i + 8) _ (omega (arith, t)) l.invariant.2 (crc_next c.args.n c.args.power _ p.1 p.3 l.i (l.invariant.2.each l.i (omega arith)) c.roll-in-loop-i.ensures)),
     )
-
-pub shape_of-crcs : goal.shape_of-crcs
-shape_of-crcs c = c.loop-i.invariant.1.size ∙ sym c.requires.4.size
-
-pub shape_of-others : goal.shape_of-others
-shape_of-others c = c.loop-i.invariant.2.size ∙ sym c.requires.5.size
 
 pub returns : goal.returns
 unfolding crcs_in

@@ -7,7 +7,7 @@ use Rattle.scan.proofs.Dividing.{Lanes}
 use Rattle.scan.proofs.first.bytes_at.Given as goal
 
 abbrev pub invariant-loop-t : goal.invariant-loop-t
-invariant-loop-t l = (l.t ≤ 8) × Lanes (byte_in l.i l.j l.bits) (byte_in l.i (l.j + 1) l.bits) l.bytes l.t
+invariant-loop-t l = Lanes (byte_in l.i l.j l.bits) (byte_in l.i (l.j + 1) l.bits) l.byte-items l.t
 
 abbrev pub invariant-loop-j : goal.invariant-loop-j
 invariant-loop-j l = (l.j ≤ 8) × Done 0 (byte_in l.i l.j l.bits) 8 l.bytes 8

@@ -7,10 +7,10 @@ use Rattle.scan.proofs.Dividing.{Lanes}
 use Rattle.scan.proofs.first.first_row.Given as goal
 
 abbrev pub invariant-loop-t : goal.invariant-loop-t
-invariant-loop-t l = (l.t ≤ 8) × Lanes (crc_in l.i l.bits) (crc_in (l.i + 1) l.bits) l.r l.t
+invariant-loop-t l = Lanes (crc_in l.i l.bits) (crc_in (l.i + 1) l.bits) l.crc-items l.t
 
 abbrev pub invariant-loop-i : goal.invariant-loop-i
-invariant-loop-i l = (l.i ≤ l.n) × Done 0 (crc_in l.i l.bits) 8 l.r 8
+invariant-loop-i l = (l.i ≤ l.n) × Done 0 (crc_in l.i l.bits) 8 l.row 8
 
 abbrev pub invariant-loop-t-2 : goal.invariant-loop-t-2
-invariant-loop-t-2 l = (l.t ≤ 8) × Done 0 (crc_in l.n l.bits) (length l.initial.crcs) l.crcs l.t
+invariant-loop-t-2 l = Done 0 (crc_in l.n l.bits) (length l.initial.crcs) l.crcs l.t

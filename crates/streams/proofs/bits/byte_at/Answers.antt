@@ -9,10 +9,10 @@ pub returns-then-o-eq0 : goal.returns-then-o-eq0
 returns-then-o-eq0 c =
     let j = c.args.j in
     let e : 8 * (j / 8) ≡ j = omega arith in
-    rw e at (byte_whole c.args.bytes.now (j / 8) (c.shared_slice_known-1.given (j / 8)).fits)
+    rw e at (byte_whole c.args.bytes.now (j / 8) (c.type_inv.bytes (j / 8)).fits)
 
-pub returns : goal.returns
-returns c =
+pub returns-else-o-eq0 : goal.returns-else-o-eq0
+returns-else-o-eq0 c =
     let j = c.args.j in
     let e : 8 * (j / 8) + j % 8 ≡ j = omega arith in
-    rw e at (byte_across c.args.bytes.now (j / 8) (j % 8) (omega arith) (c.shared_slice_known-3-1.given (j / 8 + 1)).fits)
+    rw e at (byte_across c.args.bytes.now (j / 8) (j % 8) (omega arith) (c.type_inv.bytes (j / 8 + 1)).fits)

@@ -9,41 +9,41 @@ use Rattle.timing.proofs.Turning.{todo_up, todo_down}
 use Rattle.timing.proofs.Keeping.{begins, some_left, spans_up, spans_down, up_keeps, down_keeps, ends}
 use Rattle.timing.proofs.turns.settle_from.Goals as goal
 
-pub loop-f-init : goal.loop-f-init
-loop-f-init c = begins c.args.index c.args.fraction c.requires.0 (range_gives c.args.fraction (passes (fits binary32 c.args.fraction) c.well_formed.1.0.1) c.requires.2)
+pub loop-fraction-init : goal.loop-fraction-init
+loop-fraction-init c = begins c.args.index c.args.fraction c.requires.0 (range_gives c.args.fraction (passes (fits binary32 c.args.fraction) c.well_formed.1.0.1) c.requires.2)
 
-pub overflow_sub-i : goal.overflow_sub-i
+pub overflow_sub-index : goal.overflow_sub-index
 unfolding of_bits neg
-overflow_sub-i c = let l = c.loop-f in
-    some_left l.f l.i l.invariant.range l.invariant.low c.if-f.true
+overflow_sub-index c = let l = c.loop-fraction in
+    some_left l.fraction l.index l.invariant.range l.invariant.low c.if-fraction.true
 
-pub loop-f-smaller-then-f : goal.loop-f-smaller-then-f
+pub loop-fraction-smaller-then-fraction : goal.loop-fraction-smaller-then-fraction
 unfolding of_bits neg
-loop-f-smaller-then-f c = let l = c.loop-f in
-    todo_up l.f (spans_up l.f l.invariant.range c.if-f.true) c.if-f.true
+loop-fraction-smaller-then-fraction c = let l = c.loop-fraction in
+    todo_up l.fraction (spans_up l.fraction l.invariant.range c.if-fraction.true) c.if-fraction.true
 
-pub loop-f-preserved-then-f : goal.loop-f-preserved-then-f
+pub loop-fraction-preserved-then-fraction : goal.loop-fraction-preserved-then-fraction
 unfolding of_bits neg
-loop-f-preserved-then-f c = let l = c.loop-f in
-    up_keeps c.args.index c.args.fraction l.i l.f l.invariant c.if-f.true
+loop-fraction-preserved-then-fraction c = let l = c.loop-fraction in
+    up_keeps c.args.index c.args.fraction l.index l.fraction l.invariant c.if-fraction.true
 
-pub overflow_add-i : goal.overflow_add-i
+pub overflow_add-index : goal.overflow_add-index
 unfolding of_bits neg
-overflow_add-i c = let l = c.loop-f in
-    let t = todo_down l.f (spans_down l.f l.invariant.range c.if-f-2.true) c.if-f-2.true in
+overflow_add-index c = let l = c.loop-fraction in
+    let t = todo_down l.fraction (spans_down l.fraction l.invariant.range c.if-fraction-2.true) c.if-fraction-2.true in
     omega (arith, l.invariant.high, c.requires.1)
 
-pub loop-f-smaller : goal.loop-f-smaller
+pub loop-fraction-smaller : goal.loop-fraction-smaller
 unfolding of_bits neg
-loop-f-smaller c = let l = c.loop-f in
-    todo_down l.f (spans_down l.f l.invariant.range c.if-f-2.true) c.if-f-2.true
+loop-fraction-smaller c = let l = c.loop-fraction in
+    todo_down l.fraction (spans_down l.fraction l.invariant.range c.if-fraction-2.true) c.if-fraction-2.true
 
-pub loop-f-preserved : goal.loop-f-preserved
+pub loop-fraction-preserved : goal.loop-fraction-preserved
 unfolding of_bits neg
-loop-f-preserved c = let l = c.loop-f in
-    down_keeps c.args.index c.args.fraction l.i l.f l.invariant c.if-f.false c.if-f-2.true
+loop-fraction-preserved c = let l = c.loop-fraction in
+    down_keeps c.args.index c.args.fraction l.index l.fraction l.invariant c.if-fraction.false c.if-fraction-2.true
 
-pub returns : goal.returns
+pub returns-else-fraction-2 : goal.returns-else-fraction-2
 unfolding of_bits neg
-returns c = let l = c.loop-f in
-    ends c.args.index c.args.fraction l.i l.f l.invariant (c.if-f.false, c.if-f-2.false)
+returns-else-fraction-2 c = let l = c.loop-fraction in
+    ends c.args.index c.args.fraction l.index l.fraction l.invariant (c.if-fraction.false, c.if-fraction-2.false)

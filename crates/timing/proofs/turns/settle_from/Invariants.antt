@@ -5,8 +5,8 @@ use Rattle.timing.proofs.Turning.{todo}
 use Rattle.timing.proofs.Keeping.{Kept}
 use Rattle.timing.proofs.turns.settle_from.Given as goal
 
-abbrev pub invariant-loop-f : goal.invariant-loop-f
-invariant-loop-f l = Kept l.index l.fraction l.i l.f
+abbrev pub invariant-loop-fraction : goal.invariant-loop-fraction
+invariant-loop-fraction l = Kept l.fn.index l.fn.fraction l.index l.fraction
 
-abbrev pub decreases-loop-f : goal.decreases-loop-f
-decreases-loop-f l = todo l.f
+abbrev pub decreases-loop-fraction : goal.decreases-loop-fraction
+decreases-loop-fraction l = todo l.fraction

@@ -1,15 +1,9 @@
 -- `words::float::window_floats` meets its contract. The loop's invariant: the first k floats of the output are those of the bytes.
 -- Assumes nothing.
-use mathlib.Core.Path.{◌≡◌}
-use Prim.Native.Nat.{◌-◌, ◌≤◌}
 use lib.Ieee.{binary32, of_bits}
-use lib.ListN.{length}
 use Rattle.lists.proofs.Table.{Done}
 use Rattle.words.specs.Words.{float_at}
 use Rattle.words.proofs.float.window_floats.Given as goal
 
 abbrev pub invariant-loop-k : goal.invariant-loop-k
-invariant-loop-k l = (length l.bytes ≡ 9240) × (l.k ≤ 2310) × (length l.out ≡ 2310) × Done (of_bits binary32 0) (float_at l.bytes) 2310 l.out l.k
-
-abbrev pub decreases-loop-k : goal.decreases-loop-k
-decreases-loop-k l = 2310 - l.k
+invariant-loop-k l = Done (of_bits binary32 0) (float_at l.bytes) 2310 l.out l.k

@@ -1,6 +1,0 @@
--- `listing::put::put_decimal`, which calls itself. The measure is the number.
--- Assumes nothing.
-use Rattle.listing.proofs.put.+put_decimal.Given as goal
-
-abbrev pub decreases-put_decimal : goal.decreases-put_decimal
-decreases-put_decimal l = l.n

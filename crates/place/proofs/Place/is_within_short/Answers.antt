@@ -1,8 +1,0 @@
--- `place::Place::is_within_short` meets its contract: its body's, at 7 bytes.
--- Assumes nothing.
-use Rattle.place.specs.Step.{within}
-use Rattle.place.proofs.Place.is_within_short.Goals as goal
-
-pub returns : goal.returns
-unfolding within
-returns c = c.starts_by.ensures

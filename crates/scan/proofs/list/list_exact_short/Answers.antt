@@ -1,6 +1,0 @@
--- `scan::list::list_exact_short` meets its contract. Assumes nothing.
-use Rattle.std.proofs.Common.{refl, arith}
-use Rattle.scan.proofs.list.list_exact_short.Goals as goal
-
-pub list_of-requires : goal.list_of-requires
-list_of-requires c = (omega arith, omega arith, refl, refl)

@@ -1,7 +1,0 @@
--- `sieve::find_repairable` meets its contract. Assumes nothing.
-use Rattle.sieve.specs.Inner.{bytes_of, most_of}
-use Rattle.sieve.proofs.find_repairable.Goals as goal
-
-pub returns : goal.returns
-unfolding bytes_of most_of
-returns c = c.find_of.ensures

@@ -2,9 +2,9 @@
  *
  * Every function is proved to answer its definition, whatever it is given (docs/CONTRACTS.md names each). It keeps no state, takes
  * nothing from the heap and calls nothing but memcpy, memmove and memset, so that any number of threads may call it. A decode takes
- * some 49 KiB of stack, and one of both kinds some 59 KiB: 50,336 and 60,224 bytes at most as it was measured for x86-64, and for
- * Arm, before undecided bits were counted, 48,672 and 58,384. A tray takes 54,872 bytes at most, and one of both kinds 64,568, for
- * x86-64, however many windows it has; tools/stack measures it.
+ * 34,744 bytes of stack at most for a long message, 41,784 for a short one and 44,776 for both, as it was measured for x86-64 (for
+ * Arm, as an earlier kit compiled it, 48,672 for a long one and 58,384 for both). A tray takes 54,872 bytes at most, and one of both
+ * kinds 64,856, for x86-64, however many windows it has; tools/stack measures it.
  *
  * A slice is a pointer and a length, in elements. The library checks every length itself and refuses a wrong one. What it cannot
  * check is left to the caller: that a pointer is good for its length (with length 0 it may be null), that it is aligned for the type

@@ -9,9 +9,10 @@ use refusals::Refusal;
 pub fn check_local_maximum(values: &[f32]) -> Result<bool, Refusal>
     ensures { told result ≡ maximum_of values.now }
 {
-    match *values {
+    // Each is read only when it is compared.
+    match values {
         [first, second, third, fourth, fifth] => {
-            Ok(!(first >= third || second >= third || fourth > third || fifth > third))
+            Ok(!(*first >= *third || *second >= *third || *fourth > *third || *fifth > *third))
         }
         _ => Err(Refusal::Input),
     }

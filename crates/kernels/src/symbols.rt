@@ -66,7 +66,14 @@ pub fn symbols_of_sums(sums: &[f32], symbols: &mut [f32]) -> Result<(), Refusal>
 pub fn accumulate_symbols(samples: &[f32], symbols: &mut [f32]) -> Result<(), Refusal>
     ensures { (told_number result, symbols.new) ≡ accumulated samples.now symbols.old }
 {
+    if samples.len() != 2310 {
+        return Err(Refusal::Input);
+    }
+    if symbols.len() != 2304 {
+        return Err(Refusal::Output);
+    }
     let mut sums = [0.0f32; 2304];
-    running_sums(samples, &mut sums)?;
-    symbols_of_sums(&sums, symbols)
+    sum_all(samples, &mut sums);
+    set_out(&sums, symbols);
+    Ok(())
 }

@@ -9,6 +9,7 @@ use Rattle.khlongrae.specs.contracts.decode.khlongrae_decode_short as decode-khl
 use Rattle.khlongrae.specs.contracts.decode.khlongrae_decode_both as decode-khlongrae-decode-both
 use Rattle.khlongrae.specs.contracts.header.khlongrae_header as header-khlongrae-header
 use Rattle.khlongrae.specs.contracts.header.khlongrae_header_short as header-khlongrae-header-short
+use Rattle.khlongrae.specs.contracts.header.FlatHeaderFromResultBoolRefusal.from as header-FlatHeaderFromResultBoolRefusal-from
 use Rattle.khlongrae.specs.contracts.message.khlongrae_avr as message-khlongrae-avr
 use Rattle.khlongrae.specs.contracts.message.khlongrae_remainder as message-khlongrae-remainder
 use Rattle.khlongrae.specs.contracts.spectrum.khlongrae_long_fft_max_search as spectrum-khlongrae-long-fft-max-search
@@ -48,6 +49,11 @@ pub header-khlongrae-header-short-fixed : Fixed header-khlongrae-header-short.en
 header-khlongrae-header-short-fixed =
     fixes header-khlongrae-header-short.ended _ (answer-set header-khlongrae-header-short.ended) refl (λ κs. refl)
     (λ κs a r e. r) (λ κs a y. (y, (tt, (tt, (tt, (tt, tt)))))) (λ κs a r ws. refl)
+
+pub header-FlatHeaderFromResultBoolRefusal-from-fixed : Fixed header-FlatHeaderFromResultBoolRefusal-from.ended (answer _) (λ M 𝓤 𝓛. header-FlatHeaderFromResultBoolRefusal-from.clauses 𝓛) (λ M 𝓤 𝓛. header-FlatHeaderFromResultBoolRefusal-from.spec 𝓛)
+header-FlatHeaderFromResultBoolRefusal-from-fixed =
+    fixes header-FlatHeaderFromResultBoolRefusal-from.ended _ (answer-set header-FlatHeaderFromResultBoolRefusal-from.ended) refl (λ κs. refl)
+    (λ κs a r e. r) (λ κs a y. (y, (tt, tt))) (λ κs a r ws. refl)
 
 pub message-khlongrae-avr-fixed : Fixed message-khlongrae-avr.ended (answer _) (λ M 𝓤 𝓛. message-khlongrae-avr.clauses 𝓛) (λ M 𝓤 𝓛. message-khlongrae-avr.spec 𝓛)
 message-khlongrae-avr-fixed =

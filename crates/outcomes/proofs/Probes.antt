@@ -6,6 +6,8 @@ use Rattle.outcomes.proofs.Law.{fixes, answer-set}
 use Rattle.probes.specs.contracts.bits.probe_remainder as bits-probe-remainder
 use Rattle.probes.specs.contracts.bits.probe_distance as bits-probe-distance
 use Rattle.probes.specs.contracts.bits.probe_header as bits-probe-header
+use Rattle.probes.specs.contracts.bits.FlatNumberFromResultU32Refusal.from as bits-FlatNumberFromResultU32Refusal-from
+use Rattle.probes.specs.contracts.bits.FlatNumberFromResultBoolRefusal.from as bits-FlatNumberFromResultBoolRefusal-from
 use Rattle.probes.specs.contracts.samples.probe_symbols as samples-probe-symbols
 use Rattle.probes.specs.contracts.samples.probe_streams as samples-probe-streams
 use Rattle.probes.specs.contracts.samples.probe_undecided as samples-probe-undecided
@@ -13,9 +15,11 @@ use Rattle.probes.specs.contracts.samples.probe_power as samples-probe-power
 use Rattle.probes.specs.contracts.samples.probe_noise_power as samples-probe-noise-power
 use Rattle.probes.specs.contracts.samples.probe_cn0 as samples-probe-cn0
 use Rattle.probes.specs.contracts.samples.probe_parabola as samples-probe-parabola
+use Rattle.probes.specs.contracts.samples.FlatPowerFromResultF32Refusal.from as samples-FlatPowerFromResultF32Refusal-from
 use Rattle.probes.specs.contracts.tables.probe_single as tables-probe-single
 use Rattle.probes.specs.contracts.tables.probe_double as tables-probe-double
 use Rattle.probes.specs.contracts.tables.probe_codes as tables-probe-codes
+use Rattle.probes.specs.contracts.tables.FlatFoundFromFound.from as tables-FlatFoundFromFound-from
 
 pub bits-probe-remainder-fixed : Fixed bits-probe-remainder.ended (answer _) (λ M 𝓤 𝓛. bits-probe-remainder.clauses 𝓛) (λ M 𝓤 𝓛. bits-probe-remainder.spec 𝓛)
 bits-probe-remainder-fixed =
@@ -31,6 +35,16 @@ pub bits-probe-header-fixed : Fixed bits-probe-header.ended (answer _) (λ M �
 bits-probe-header-fixed =
     fixes bits-probe-header.ended _ (answer-set bits-probe-header.ended) refl (λ κs. refl)
     (λ κs a r e. r) (λ κs a y. (y, (tt, (tt, (tt, (tt, (tt, tt))))))) (λ κs a r ws. refl)
+
+pub bits-FlatNumberFromResultU32Refusal-from-fixed : Fixed bits-FlatNumberFromResultU32Refusal-from.ended (answer _) (λ M 𝓤 𝓛. bits-FlatNumberFromResultU32Refusal-from.clauses 𝓛) (λ M 𝓤 𝓛. bits-FlatNumberFromResultU32Refusal-from.spec 𝓛)
+bits-FlatNumberFromResultU32Refusal-from-fixed =
+    fixes bits-FlatNumberFromResultU32Refusal-from.ended _ (answer-set bits-FlatNumberFromResultU32Refusal-from.ended) refl (λ κs. refl)
+    (λ κs a r e. r) (λ κs a y. (y, (tt, tt))) (λ κs a r ws. refl)
+
+pub bits-FlatNumberFromResultBoolRefusal-from-fixed : Fixed bits-FlatNumberFromResultBoolRefusal-from.ended (answer _) (λ M 𝓤 𝓛. bits-FlatNumberFromResultBoolRefusal-from.clauses 𝓛) (λ M 𝓤 𝓛. bits-FlatNumberFromResultBoolRefusal-from.spec 𝓛)
+bits-FlatNumberFromResultBoolRefusal-from-fixed =
+    fixes bits-FlatNumberFromResultBoolRefusal-from.ended _ (answer-set bits-FlatNumberFromResultBoolRefusal-from.ended) refl (λ κs. refl)
+    (λ κs a r e. r) (λ κs a y. (y, (tt, tt))) (λ κs a r ws. refl)
 
 pub samples-probe-symbols-fixed : Fixed samples-probe-symbols.ended (answer _) (λ M 𝓤 𝓛. samples-probe-symbols.clauses 𝓛) (λ M 𝓤 𝓛. samples-probe-symbols.spec 𝓛)
 samples-probe-symbols-fixed =
@@ -67,6 +81,11 @@ samples-probe-parabola-fixed =
     fixes samples-probe-parabola.ended _ (answer-set samples-probe-parabola.ended) refl (λ κs. refl)
     (λ κs a r e. r) (λ κs a y. (y, (tt, (tt, (tt, tt))))) (λ κs a r ws. refl)
 
+pub samples-FlatPowerFromResultF32Refusal-from-fixed : Fixed samples-FlatPowerFromResultF32Refusal-from.ended (answer _) (λ M 𝓤 𝓛. samples-FlatPowerFromResultF32Refusal-from.clauses 𝓛) (λ M 𝓤 𝓛. samples-FlatPowerFromResultF32Refusal-from.spec 𝓛)
+samples-FlatPowerFromResultF32Refusal-from-fixed =
+    fixes samples-FlatPowerFromResultF32Refusal-from.ended _ (answer-set samples-FlatPowerFromResultF32Refusal-from.ended) refl (λ κs. refl)
+    (λ κs a r e. r) (λ κs a y. (y, (tt, tt))) (λ κs a r ws. refl)
+
 pub tables-probe-single-fixed : Fixed tables-probe-single.ended (answer _) (λ M 𝓤 𝓛. tables-probe-single.clauses 𝓛) (λ M 𝓤 𝓛. tables-probe-single.spec 𝓛)
 tables-probe-single-fixed =
     fixes tables-probe-single.ended _ (answer-set tables-probe-single.ended) refl (λ κs. refl)
@@ -81,3 +100,8 @@ pub tables-probe-codes-fixed : Fixed tables-probe-codes.ended (answer _) (λ M �
 tables-probe-codes-fixed =
     fixes tables-probe-codes.ended _ (answer-set tables-probe-codes.ended) refl (λ κs. refl)
     (λ κs a r e. (r, e.1.0.now)) (λ κs a y. (y.0, (tt, (y.1, tt)))) (λ κs a r ws. refl)
+
+pub tables-FlatFoundFromFound-from-fixed : Fixed tables-FlatFoundFromFound-from.ended (answer _) (λ M 𝓤 𝓛. tables-FlatFoundFromFound-from.clauses 𝓛) (λ M 𝓤 𝓛. tables-FlatFoundFromFound-from.spec 𝓛)
+tables-FlatFoundFromFound-from-fixed =
+    fixes tables-FlatFoundFromFound-from.ended _ (answer-set tables-FlatFoundFromFound-from.ended) refl (λ κs. refl)
+    (λ κs a r e. r) (λ κs a y. (y, (tt, tt))) (λ κs a r ws. refl)

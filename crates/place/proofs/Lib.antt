@@ -3,3 +3,4 @@ pub mod Steps
 pub mod All
 pub mod Cases
 pub mod Agreeing
+pub mod Carrying

@@ -1,6 +1,6 @@
 -- What is refused, by its number, and a result in the rules' words.
 -- Assumes nothing.
-use Rattle.std.specs.Prelude.{ℕ, Result, Ok, Err}
+use Rattle.std.specs.Prelude.{ℕ, List, codes, Result, Ok, Err}
 use Rattle.lists.specs.Told.{Told, done, refused}
 use Rattle.refusals.specs.declared.Refusal.{Refusal}
 use Rattle.refusals.specs.declared.Refusal.TheVariants.{Input, Output, Level, Threshold, Index, Place, Position, HalfWidth, Malformed}
@@ -27,3 +27,15 @@ told (Err e) = refused (number e)
 abbrev pub told_number : {A : Type 0} → Result A Refusal → ℕ
 told_number (Ok v) = 0
 told_number (Err e) = number e
+
+-- what is printed of it
+abbrev pub refusal_text : Refusal → List ℕ
+refusal_text Input = codes "an input of the wrong length"
+refusal_text Output = codes "an output of the wrong length"
+refusal_text Level = codes "a level above 2"
+refusal_text Threshold = codes "a threshold that is not finite"
+refusal_text Index = codes "an index below 128 or above 2^63"
+refusal_text Place = codes "a place or an offset out of its range"
+refusal_text Position = codes "a position behind the message"
+refusal_text HalfWidth = codes "a half-width too large"
+refusal_text Malformed = codes "an input that is malformed"

@@ -2,7 +2,8 @@
 --     Differ, not_both                 one of two numbers is another
 --     fits_none, fits_all, fits_not    its size
 --     rest                             the rest of a list, as the code takes it
---     shaped_one, shaped_two           its parts have a slot for each remainder
+--     shaped_one, shaped_two           its parts are hashes of so many bits
+--     slotted_one, slotted_two         and have a slot for each remainder
 --     asked_one, asked_two, asked_own, length_asked   what is asked, by what is lent
 --     get_d_asks                        of the remainder at a place
 --     sifted_part                      what a part gives
@@ -22,9 +23,9 @@ use Rattle.sieve.specs.declared.hash.Shape.{Shape}
 use Rattle.sieve.specs.Repairable.{repairable, repairable_at, refused_in, repairable_in, repairable_into}
 use Rattle.sieve.specs.Tables.{one_displacements, one_owners, one_positions, two_displacements, two_owners}
 use Rattle.sieve.specs.Hash.{at_one, at_two, lets, asks, hash_displacements, hash_owners, hash_into, hash_fits, asked_in, sieved_into}
-use Rattle.sieve.specs.Inner.{let_in, Shaped, Gathered, Sifted}
+use Rattle.sieve.specs.Inner.{let_in, Shaped, Slotted, Gathered, Sifted}
 use Rattle.sieve.proofs.Clears.{apart, rep_none}
-use Rattle.sieve.proofs.Owning.{shaped_by}
+use Rattle.sieve.proofs.Owning.{slotted}
 use Rattle.sieve.proofs.Picking.{into_done}
 
 -- ---- its size
@@ -58,16 +59,36 @@ module _ (ds os : List ℕ) (a : length ds ≡ 2688) (b : length os ≡ 8704) (n
   shaped_one =
       let l : length (take 128 ds) ≡ 128 = length-take-le 128 ds (omega arith) in
       let m : length (take 512 os) ≡ 512 = length-take-le 512 os (omega arith) in
-      shaped_by at_one (take 128 ds) (take 512 os) 9 (omega arith) (omega arith) (omega arith)
-      (λ i h. rw (get_or-take 128 ds i 0 (omega arith)) (omega (arith, near i))) (omega arith)
+      record {
+        small = omega arith;
+        few = omega arith;
+        bits = 9;
+        width = omega arith;
+        near = λ i h. rw (get_or-take 128 ds i 0 (omega arith)) (omega (arith, near i));
+        many = omega arith;
+        room = omega arith;
+      }
 
   pub shaped_two : {o : List ℕ} → o ≡ drop 512 os → Shaped at_two (take 2048 (drop 128 ds)) o
   shaped_two e =
       let l : length (take 2048 (drop 128 ds)) ≡ 2048 = length-take-le 2048 (drop 128 ds) (omega (arith, length-drop 128 ds)) in
       let m : length (drop 512 os) ≡ 8192 = length-drop 512 os ∙ omega arith in
       rw e
-      (shaped_by at_two (take 2048 (drop 128 ds)) (drop 512 os) 13 (omega arith) (omega arith) (omega arith)
-      (λ i h. rw (get_or-take 2048 (drop 128 ds) i 0 (omega arith), get_or-drop 128 ds i 0) (omega (arith, near (128 + i)))) (omega arith))
+      (record {
+        small = omega arith;
+        few = omega arith;
+        bits = 13;
+        width = omega arith;
+        near = λ i h. rw (get_or-take 2048 (drop 128 ds) i 0 (omega arith), get_or-drop 128 ds i 0) (omega (arith, near (128 + i)));
+        many = omega arith;
+        room = omega arith;
+      })
+
+  pub slotted_one : Slotted at_one (take 128 ds) (take 512 os)
+  slotted_one = slotted _ _ _ shaped_one
+
+  pub slotted_two : {o : List ℕ} → o ≡ drop 512 os → Slotted at_two (take 2048 (drop 128 ds)) o
+  slotted_two e = slotted _ _ _ (shaped_two e)
 
 -- ---- what is asked
 

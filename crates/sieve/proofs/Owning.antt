@@ -1,6 +1,7 @@
 -- Laws of the hash that only lets through.
 --     owner_law               its rule, by one computed test over both tables
---     shaped_by               a hash of so many bits has a slot for each remainder
+--     slotted_by, slotted     a hash of so many bits has a slot for each remainder
+--     slot_small              and its number has 16 bits
 --     lets_gone, asks_same    what is not let through no such number of positions of 14 bytes or fewer clears, and 2^24 is asked in its place
 --     let_bit, let_places     the two remainders of a place
 -- Assumes nothing.
@@ -24,7 +25,7 @@ use Rattle.scan.specs.Sieve.{lane_of}
 use Rattle.scan.proofs.Keeping.{lane_is}
 use Rattle.sieve.specs.Repairable.{repairable_at}
 use Rattle.sieve.specs.Hash.{slot_of, lets, asks}
-use Rattle.sieve.specs.Inner.{let_in, Shaped, Owners}
+use Rattle.sieve.specs.Inner.{let_in, Shaped, Slotted, Owners}
 use Rattle.sieve.proofs.Placed.{placed, read, stands, read_is}
 use Rattle.sieve.proofs.Clears.{rep_none, fewer_gone}
 
@@ -58,7 +59,7 @@ all_own level n k b l ss ds os = both (all_below 112 (single_owns n k b l ss ds 
 
 unfoldable pub sizes : ℕ → ℕ → ℕ → List ℕ → List ℕ → Bool
 sizes n k b d o =
-    both (ltb n 32) (both (leb 256 (2 ^ b)) (both (eqb (length d) (2 ^ k)) (eqb (length o) (2 ^ b))))
+    both (ltb n 32) (both (leb 256 (2 ^ b)) (both (leb (2 ^ b) 65536) (both (eqb (length d) (2 ^ k)) (eqb (length o) (2 ^ b)))))
 
 unfoldable pub owner_rule : ℕ → ℕ → ℕ → ℕ → ℕ → List ℕ → List ℕ → List ℕ → Bool
 owner_rule level n k b l ss d o =
@@ -125,6 +126,7 @@ module _ (level n k b l : ℕ) (d o : List ℕ) where
 record Sizes (n k b : ℕ) (d o : List ℕ) : Type 0 where
   shift : n < 32
   wide : 256 ≤ 2 ^ b
+  room : 2 ^ b ≤ 65536
   few : length d ≡ 2 ^ k
   many : length o ≡ 2 ^ b
 
@@ -133,21 +135,24 @@ unfolding sizes
 sized n k b d o t =
     let x = ltb n 32 in
     let y = leb 256 (2 ^ b) in
+    let v = leb (2 ^ b) 65536 in
     let z = eqb (length d) (2 ^ k) in
     let w = eqb (length o) (2 ^ b) in
-    let t1 = both_right x (both y (both z w)) t in
-    let t2 = both_right y (both z w) t1 in
+    let t1 = both_right x (both y (both v (both z w))) t in
+    let t2 = both_right y (both v (both z w)) t1 in
+    let t3 = both_right v (both z w) t2 in
     record {
-      shift = ltb→lt n 32 (both_left x (both y (both z w)) t);
-      wide = leb→le 256 (2 ^ b) (both_left y (both z w) t1);
-      few = eqb→eq (length d) (2 ^ k) (both_left z w t2);
-      many = eqb→eq (length o) (2 ^ b) (both_right z w t2);
+      shift = ltb→lt n 32 (both_left x (both y (both v (both z w))) t);
+      wide = leb→le 256 (2 ^ b) (both_left y (both v (both z w)) t1);
+      room = leb→le (2 ^ b) 65536 (both_left v (both z w) t2);
+      few = eqb→eq (length d) (2 ^ k) (both_left z w t3);
+      many = eqb→eq (length o) (2 ^ b) (both_right z w t3);
     }
 
 -- a hash of so many bits has a slot for each remainder
-pub shaped_by : (s : Shape) (d o : List ℕ) (bits : ℕ) → s.shift < 32 → s.index < length d → s.slots < 2 ^ bits
-    → ((i : ℕ) → i < length d → get_or d i 0 < 2 ^ bits) → 2 ^ bits ≤ length o → Shaped s d o
-shaped_by s d o bits small few width near many =
+pub slotted_by : (s : Shape) (d o : List ℕ) (bits : ℕ) → s.shift < 32 → s.index < length d → s.slots < 2 ^ bits
+    → ((i : ℕ) → i < length d → get_or d i 0 < 2 ^ bits) → 2 ^ bits ≤ length o → Slotted s d o
+slotted_by s d o bits small few width near many =
     record {
       small = small;
       few = few;
@@ -159,13 +164,32 @@ shaped_by s d o bits small few width near many =
           many;
     }
 
+module _ (s : Shape) (d o : List ℕ) (w : Shaped s d o) where
+  pub slotted : Slotted s d o
+  slotted = slotted_by s d o w.bits w.small w.few w.width w.near w.many
+
+  -- and its number has 16 bits
+  pub slot_small : (r : ℕ) → slot_of s d r < 65536
+  slot_small r =
+      lt_of_lt_of_le
+      (xor_lt w.bits (bit_and (r / 2 ^ s.shift) s.slots) (get_or d (bit_and r s.index) 0) (lt_of_le_of_lt (and_le_r (r / 2 ^ s.shift) s.slots) w.width)
+      (w.near (bit_and r s.index) (lt_of_le_of_lt (and_le_r r s.index) w.few)))
+      w.room
+
 pub owner_law : (level n k b l : ℕ) (d o : List ℕ) → T (owner_rule level n k b l singles d o) → Owners level (shape_of n k b l) d o
 unfolding owner_rule ds os below_n
 owner_law level n k b l d o t =
     record {
       shaped =
-          shaped_by (shape_of n k b l) d o b s.shift (omega (arith, s.few, pow_pos k)) (omega (arith, pow_pos b))
-          (λ i h. lt_of_lt_of_le (small i h) s.wide) (omega (arith, s.many));
+          record {
+            small = s.shift;
+            few = omega (arith, s.few, pow_pos k);
+            bits = b;
+            width = omega (arith, pow_pos b);
+            near = λ i h. lt_of_lt_of_le (small i h) s.wide;
+            many = omega (arith, s.many);
+            room = s.room;
+          };
       there = all_there level n k b l d o small small16 (both_right y z t2);
     }
   where

@@ -1,7 +1,7 @@
 -- What private functions rest on: no public contract cites it.
 -- Each pattern of at least one and at most so many positions owns its slot of the hash.
 -- Assumes nothing.
-use Rattle.std.specs.Prelude.{◌≡◌, ℕ, zero, suc, ◌+◌, ◌*◌, ◌<◌, ◌≤◌, Bool, false, cond, ◌||◌, List, [], ◌∷◌, ◌++◌, length, take, bit_and, nat_lt, slice_index}
+use Rattle.std.specs.Prelude.{◌≡◌, ℕ, zero, suc, ◌+◌, ◌*◌, ◌^◌, ◌<◌, ◌≤◌, Bool, false, cond, ◌||◌, List, [], ◌∷◌, ◌++◌, length, take, bit_and, nat_lt, slice_index}
 use Rattle.annex10.specs.declared.Repairs.{Repairs}
 use Rattle.annex10.specs.Repair.{Proper, count, pattern}
 use Rattle.sieve.specs.declared.hash.Shape.{Shape}
@@ -14,8 +14,18 @@ use Rattle.sieve.specs.Hash.{slot_of, lets, asks}
 unfoldable pub let_in : Shape → List ℕ → List ℕ → List ℕ → List ℕ → ℕ → Bool
 let_in s ds os crcs others k = lets s ds os (slice_index crcs (lane_of k)) || lets s ds os (slice_index others (lane_of k))
 
--- each remainder has a slot
+-- a hash of so many bits, 16 at most
 pub record Shaped (s : Shape) (ds os : List ℕ) : Type 0 where
+  pub small : s.shift < 32
+  pub few : s.index < length ds
+  pub bits : ℕ
+  pub width : s.slots < 2 ^ bits
+  pub near : (i : ℕ) → i < length ds → slice_index ds i < 2 ^ bits
+  pub many : 2 ^ bits ≤ length os
+  pub room : 2 ^ bits ≤ 65536
+
+-- what it gives: each remainder has a slot
+pub record Slotted (s : Shape) (ds os : List ℕ) : Type 0 where
   pub small : s.shift < 32
   pub few : s.index < length ds
   pub there : (r : ℕ) → slot_of s ds r < length os

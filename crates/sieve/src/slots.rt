@@ -1,7 +1,7 @@
 // A hash of one level, as it is asked: its own tables, or a part of what a caller lends.
 ghost use Rattle.std.specs.Prelude.{◌≡◌, ◌<◌, length};
 ghost use Rattle.sieve.specs.Hash.{slot_of, lets, asks};
-ghost use Rattle.sieve.specs.Inner.{Shaped, Owners};
+ghost use Rattle.sieve.specs.Inner.{Slotted, Owners};
 
 use crate::hash::Shape;
 use crate::tables::{ONE_DISPLACEMENTS, ONE_OWNERS, TWO_DISPLACEMENTS, TWO_OWNERS};
@@ -25,7 +25,7 @@ pub struct Hash<'a> {
     pub shape: Shape,
     pub displacements: &'a [u8],
     pub owners: &'a [u16],
-    ghost shaped: { Shaped shape displacements.now owners.now },
+    ghost slotted: { Slotted shape displacements.now owners.now },
 }
 
 impl Hash<'_> {

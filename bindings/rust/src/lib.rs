@@ -3,8 +3,8 @@
 //! The library checks every length and every setting itself, so the calls here check nothing: they hand slices over, and turn a
 //! number into a [`Refusal`]. A refused call leaves lent memory as it was. Where several refusals apply, the lowest number from 2
 //! up is told. No call keeps state, takes memory from the heap, or panics (but for an archive of another interface, see
-//! [`version`]); a decode takes some 49 KiB of stack, one of both kinds some 59 KiB. [`Tray`] decodes many windows in one call, which takes
-//! some 53 KiB of stack, of both kinds some 63 KiB. [`raw`] has the library's functions as they are.
+//! [`version`]); a decode takes some 34 KiB of stack, one of both kinds some 44 KiB. [`Tray`] decodes many windows in one call, which takes
+//! some 54 KiB of stack, of both kinds some 64 KiB. [`raw`] has the library's functions as they are.
 //!
 //! The proof is of the library in the default float environment, which `khlongrae.h` describes. What is written in Rust here is not
 //! proved: the names and texts of an answer's fields, [`Answer::received`], and the reader of files.
